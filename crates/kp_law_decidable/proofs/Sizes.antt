@@ -6,8 +6,9 @@ use Rattle.kp_base.specs.declared.refused.Refused.TheVariants as refusals
 use Rattle.kp_names_semantics.specs.Faults.{Fault, domain_faults, problem_faults, HasNoFault}
 use Rattle.kp_names.specs.Resolved.{first_fault, earlier, RefusesNames, in_domain, in_problem}
 use Rattle.kp_ground_semantics.specs.Ground.{ground_atoms, ground_of, kept_instances}
-use Rattle.kp_ground_semantics.specs.Weights.{binding_count, total_weight}
-use Rattle.kp_ground_instances.specs.Counts.{IsWithinLimits, bindings_over, actions_over, effects_over}
+use Rattle.kp_ground_semantics.specs.Weights.{total_weight}
+use Rattle.kp_ground_semantics.specs.Partial.{looked_at}
+use Rattle.kp_ground_joins.specs.Limits.{IsWithinLimits, bindings_over, actions_over, effects_over}
 use Rattle.kp_ground.specs.Grounded.{IsGrounded, RefusesGround, counts_over, atoms_over}
 use Rattle.kp_law_decidable.specs.Laws.{NamesAreDecided, SizesAreDecided}
 
@@ -21,7 +22,7 @@ names_decided x y d p = go (domain_faults d p) refl (problem_faults d p) refl
     go [] is [] at = inl (record { domain = is; problem = at })
 
 pub sizes_decided : SizesAreDecided
-sizes_decided l limits = elim (cases_lt limits.bindings (binding_count l)) [
+sizes_decided l limits = elim (cases_lt limits.bindings (looked_at l)) [
   | inl over ↦ inl (refusals.BindingsOver, counts_over refusals.BindingsOver (bindings_over over))
   | inr few ↦ elim (cases_lt limits.actions (length (kept_instances l))) [
     | inl over ↦ inl (refusals.ActionsOver, counts_over refusals.ActionsOver (actions_over few over))

@@ -35,6 +35,7 @@ use Rattle.kp_run_outcome.specs.declared.status.Status.TheVariants as status
 use Rattle.kp_run_outcome.specs.Ends.{Outside, IsAnswer}
 use Rattle.kp_run_outcome.specs.Printing.{prints, denies}
 use Rattle.kp_words.specs.Asked.{of_mode, Asked}
+use Rattle.kp_words.specs.Options.{usual_limit}
 use Rattle.kp_words.specs.declared.verb.Verb.TheVariants as verbs
 use Rattle.kp_words.specs.Command.{IsCall}
 use Rattle.kp_run_prepare.specs.Prepared.{by_texts, by_trees, early, later}
@@ -45,7 +46,7 @@ use Rattle.kp_run_solve.proofs.Public.{ends_are_true, no_plan_is_accepted, steps
 use Rattle.kp_run_solve.specs.Operators.{acts_among}
 use Rattle.kp_run_bench.specs.Summary.{summary_text}
 use Rattle.kp_run_bench.proofs.Public.{told_actions_are_those_among}
-use Rattle.kp_run_bench.specs.Bench.{texts_of, usual_implicates, SumsUp, TellsBench, over, searched as by_search, Benches}
+use Rattle.kp_run_bench.specs.Bench.{texts_of, SumsUp, TellsBench, over, searched as by_search, Benches}
 use Rattle.kp_run.specs.Outcomes.{IsDue}
 use Rattle.kp_run.specs.Ends.{Ends}
 use Rattle.kp_run.specs.Solved.{Tells, its_ground, its_formula, its_task, IsWrittenPlan}
@@ -117,7 +118,7 @@ module _ (c : Asked) (o : Outcome) (x : HasBenched c o) (old new : Outside) (s :
   fit = task_of_trees_fits d p table x.posed.prepared.started.small x.posed.fits writable
 
   fine : AreProper ground formula
-  fine = prepared_is_proper usual_implicates d p x.posed.trees.no_fault x.posed.prepared
+  fine = prepared_is_proper usual_limit d p x.posed.trees.no_fault x.posed.prepared
 
   -- the machine accepts nothing that the search doesn't find, so what is written has no plan
   none_written : ((ops : List ℕ) → succeeds task (start task) ops ≡ false) → (steps : List Step) → IsWrittenPlan x.posed.about steps → ⊥

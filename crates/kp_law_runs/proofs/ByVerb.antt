@@ -13,23 +13,25 @@ use Rattle.kp_run.specs.Solve.{SolvesTrees}
 use Rattle.kp_run.specs.Translate.{TranslatesGround, TranslatesTrees}
 use Rattle.kp_run.specs.Width.{WidthTrees}
 use Rattle.kp_run_bench.proofs.Public.{benches_have_one_outcome}
-use Rattle.kp_run_bench.specs.Bench.{texts_of, usual_implicates, BenchesGround, BenchesTrees}
+use Rattle.kp_run_bench.specs.Bench.{texts_of, BenchesGround, BenchesTrees}
 use Rattle.kp_run_outcome.specs.declared.outcome.Outcome.{Outcome}
 use Rattle.kp_run_solve.specs.Solving.{SolvesGround}
 use Rattle.kp_words.specs.Asked.{of_mode, Asked, source_of}
-use Rattle.kp_words.specs.Command.{outputs_by, merges_by}
+use Rattle.kp_words.specs.Options.{usual_limit}
+use Rattle.kp_words.specs.Forms.{form}
+use Rattle.kp_words.specs.Command.{file_among, if_named}
 use Rattle.kp_words.specs.declared.verb.Verb.{Verb}
-use Rattle.std.proofs.Common.{◌≡◌, [], refl, ap, length}
+use Rattle.std.proofs.Common.{◌≡◌, [], refl, ap, length, codes}
 use Rattle.std.proofs.lemmas.Bool.{false≢true}
 use Rattle.kp_words.specs.declared.verb.Verb.TheVariants as verbs
 use Rattle.kp_law_runs.proofs.OnceEach.{texts_once, listed_once, plans_once, lifted_once, solved_once, classical_once, measured_once}
 use Rattle.kp_law_runs.proofs.SomeEach.{of_translate, of_listed, of_check, of_lift, of_solve, of_width, of_bench, of_plan}
-use Rattle.kp_law_runs.proofs.UnderEach.{PutsUnder, under_none, comes_of, ground_under, table_under, plan_under, strip_under, judged_under, lift_under, solved_under, classical_under, comes_classical_under, width_under, bench_under}
+use Rattle.kp_law_runs.proofs.UnderEach.{outputs_by, PutsUnder, under_none, comes_of, ground_under, table_under, plan_under, strip_under, judged_under, lift_under, solved_under, classical_under, comes_classical_under, width_under, bench_under}
 
 -- a command has one outcome, and its puts are its own
 record IsOrdered (v : Verb) : Type 0 where
   once : (c : Asked) (t : Contents) (o u : Outcome) → ComesBy v c t o → ComesBy v c t u → o ≡ u
-  some : (c : Asked) (t : Contents) → length t.merges ≡ length (merges_by v c) → (o : Outcome) × ComesBy v c t o
+  some : (c : Asked) (t : Contents) → length t.merges ≡ length (if_named (file_among (form v).reads c (codes "merges"))) → (o : Outcome) × ComesBy v c t o
   under : (c : Asked) (t : Contents) (o : Outcome) → ComesBy v c t o → PutsUnder (outputs_by v c) o
 
 ordered : (v : Verb) → IsOrdered v
@@ -75,14 +77,14 @@ ordered verbs.Merges = record {
 }
 ordered verbs.Bench = record {
   once = λ c t. benches_have_one_outcome c;
-  some = λ c t many. some_comes usual_implicates (texts_of c).domain (texts_of c).problem (BenchesTrees c) (λ d p trees ready. of_bench usual_implicates d p (texts_of c).domain (texts_of c).problem trees ready c);
-  under = λ c t o a. comes_of (outputs_by verbs.Bench c) usual_implicates (texts_of c).domain (texts_of c).problem (BenchesTrees c) o (λ d p. table_under (outputs_by verbs.Bench c) (ground_of d p) (initial_of d p) (of_mode c.mode) [] (BenchesGround c (ground_of d p) (initial_of d p)) o (λ table. bench_under c (ground_of d p) (initial_of d p) table o)) a;
+  some = λ c t many. some_comes usual_limit (texts_of c).domain (texts_of c).problem (BenchesTrees c) (λ d p trees ready. of_bench usual_limit d p (texts_of c).domain (texts_of c).problem trees ready c);
+  under = λ c t o a. comes_of (outputs_by verbs.Bench c) usual_limit (texts_of c).domain (texts_of c).problem (BenchesTrees c) o (λ d p. table_under (outputs_by verbs.Bench c) (ground_of d p) (initial_of d p) (of_mode c.mode) [] (BenchesGround c (ground_of d p) (initial_of d p)) o (λ table. bench_under c (ground_of d p) (initial_of d p) table o)) a;
 }
 
 pub outcome_once : (v : Verb) (c : Asked) (t : Contents) (o u : Outcome) → ComesBy v c t o → ComesBy v c t u → o ≡ u
 outcome_once v = (ordered v).once
 
-pub some_by : (v : Verb) (c : Asked) (t : Contents) → length t.merges ≡ length (merges_by v c) → (o : Outcome) × ComesBy v c t o
+pub some_by : (v : Verb) (c : Asked) (t : Contents) → length t.merges ≡ length (if_named (file_among (form v).reads c (codes "merges"))) → (o : Outcome) × ComesBy v c t o
 some_by v = (ordered v).some
 
 pub comes_under : (v : Verb) (c : Asked) (t : Contents) (o : Outcome) → ComesBy v c t o → PutsUnder (outputs_by v c) o

@@ -1,5 +1,5 @@
 -- A run of `bench line 2 --mode k0`: it ends with Negative, since from the empty tag nothing is known of where it is. The premises of what is said of such runs are met, from the bytes on.
-use Rattle.std.proofs.Common.{◌≡◌, ◌≤◌, ℕ, zero, suc, true, false, not, nat_eq, List, [], ◌∷◌, Some, None, Vec, take, length, slice_get, codes, inl, inr, refl, sym, ap, ◌∙◌, subst, arith}
+use Rattle.std.proofs.Common.{◌≡◌, ◌≤◌, ℕ, zero, suc, true, false, not, nat_eq, List, [], ◌∷◌, Some, Vec, take, length, slice_get, codes, inl, inr, refl, sym, ap, ◌∙◌, subst, arith}
 use Rattle.std.proofs.lemmas.Bool.{false≢true}
 use Rattle.std.specs.FinMap.{empty}
 use Rattle.std.specs.Fmt.{digits}
@@ -50,7 +50,7 @@ use Rattle.kp_words.specs.declared.source.Family.TheVariants as families
 use Rattle.kp_words.specs.Asked.{Asked}
 use Rattle.kp_words.specs.declared.verb.Verb.TheVariants as verbs
 use Rattle.kp_words.specs.Command.{IsCall}
-use Rattle.kp_words.proofs.Public.{word_of_bytes as word}
+use Rattle.kp_words.proofs.Public.{word_of_bytes as word, call_by_words, files_by_computing, usual_numbers}
 use Rattle.kp_words.specs.Owned.{bare}
 use Rattle.kp_run_prepare.specs.Texts.{HaveTrees}
 use Rattle.kp_run_prepare.specs.Prepared.{usual, IsPrepared, later}
@@ -74,25 +74,9 @@ bench_words = word (codes "bench") (omega arith) ∷ word (codes "line") (omega 
 
 is_bench : IsCall verbs.Bench bench_words running
 unfolding encode digits
-is_bench = record {
-  is_command = record {
-    utf8 = ((codes "bench", (refl, refl)), ((codes "line", (refl, refl)), ((codes "2", (refl, refl)), ((codes "--mode", (refl, refl)), ((codes "k0", (refl, refl)), tt)))));
-    are_words = record {
-      rest = codes "line" ∷ codes "2" ∷ codes "--mode" ∷ codes "k0" ∷ [];
-      are = refl;
-      behind = record {
-        places = codes "line" ∷ codes "2" ∷ [];
-        values = Some (codes "k0") ∷ None ∷ [];
-        line = record { said = said_word (codes "line") ∷ said_word (codes "2") ∷ said_option (codes "mode") (codes "k0") ∷ []; says = a_word _ _ _ refl (a_word _ _ _ refl (apart_words (codes "mode") (codes "k0") _ _ refl refl line_words.nothing)); places_are = refl; known = refl; once = refl; values_are = refl };
-        are_of = record {
-          as_many = refl;
-          are_asked = record { domain = refl; problem = refl; plan = refl; written = refl; domain_out = refl; problem_out = refl; outputs_differ = tt; family = refl; size = (record { at_least = omega arith; at_most = omega arith }, refl); mode = refl; merges = refl; one_source = tt; implicates = refl; budget = refl; bound = refl; classical = refl };
-        };
-      };
-    };
-  };
-  of_verb = refl;
-}
+is_bench =
+    call_by_words verbs.Bench _ _ _ (said_word (codes "line") ∷ said_word (codes "2") ∷ said_option (codes "mode") (codes "k0") ∷ []) ((codes "bench", (refl, refl)), ((codes "line", (refl, refl)), ((codes "2", (refl, refl)), ((codes "--mode", (refl, refl)), ((codes "k0", (refl, refl)), tt))))) refl (a_word _ _ _ refl (a_word _ _ _ refl (apart_words (codes "mode") (codes "k0") _ _ refl refl line_words.nothing))) refl refl refl refl
+    (record { files = files_by_computing refl tt; source = record { mode = refl; merges = refl; one_source = tt }; numbers = usual_numbers refl; generated = record { family = refl; size = (record { at_least = omega arith; at_most = omega arith }, refl) } })
 
 -- ---- two texts
 

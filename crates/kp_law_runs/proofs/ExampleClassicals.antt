@@ -31,7 +31,7 @@ use Rattle.kp_words.specs.Asked.{Asked}
 use Rattle.kp_words.specs.declared.verb.Verb.TheVariants as verbs
 use Rattle.kp_words_options.specs.Words.{nothing, a_word, apart as apart_words, word as said_word, option as said_option}
 use Rattle.kp_words.specs.Command.{IsCall}
-use Rattle.kp_words.proofs.Public.{word_of_bytes, example_is_classical as is_classical_call}
+use Rattle.kp_words.proofs.Public.{word_of_bytes, example_is_classical as is_classical_call, call_by_words, files_by_computing, usual_source, nothing_generated}
 use Rattle.kp_words.specs.Owned.{bare}
 use Rattle.kp_run_prepare.specs.Texts.{HaveTrees}
 use Rattle.kp_run_classical.specs.Classical.{IsClassicalProblem, later, task_of}
@@ -39,7 +39,7 @@ use Rattle.kp_run_solve.specs.Solving.{Finds, solves, spends, TellsClassical}
 use Rattle.kp_run_messages.specs.Searches.{no_plan_line}
 use Rattle.kp_run.specs.Classical.{ClassicalTexts}
 use Rattle.kp_run.specs.Ends.{Ends, came}
-use Rattle.kp_run.proofs.Public.{example_holding, got_after_insert, got_beside_insert, classical_task_fits, due_by}
+use Rattle.kp_run.proofs.Public.{example_holding, got_after_insert, got_beside_insert, classical_task_fits, due_by, held_alone}
 use Rattle.kp_run.specs.Solved.{IsSolvedClassical, HasNoClassicalPlan, IsSpentClassical}
 use Rattle.kp_law_runs.proofs.Classicals.{classical_is_a_plan, no_classical_plan_is_true, classical_spent_is_true}
 use Rattle.kp_law_runs.proofs.ExampleCourses.{leading, reaching, unreached, with_plan, without_plan, spent}
@@ -59,25 +59,9 @@ with_budget = front (word_of_bytes (codes "--budget") (omega arith) ∷ word_of_
 
 is_with_budget : IsCall verbs.Classical with_budget (solving 1)
 unfolding encode digits
-is_with_budget = record {
-  is_command = record {
-    utf8 = ((codes "classical", (refl, refl)), ((codes "d", (refl, refl)), ((codes "p", (refl, refl)), ((codes "--budget", (refl, refl)), ((codes "1", (refl, refl)), tt)))));
-    are_words = record {
-      rest = codes "d" ∷ codes "p" ∷ codes "--budget" ∷ codes "1" ∷ [];
-      are = refl;
-      behind = record {
-        places = codes "d" ∷ codes "p" ∷ [];
-        values = Some (codes "1") ∷ [];
-        line = record { said = said_word (codes "d") ∷ said_word (codes "p") ∷ said_option (codes "budget") (codes "1") ∷ []; says = a_word _ _ _ refl (a_word _ _ _ refl (apart_words (codes "budget") (codes "1") _ _ refl refl (nothing))); places_are = refl; known = refl; once = refl; values_are = refl };
-        are_of = record {
-          as_many = refl;
-          are_asked = record { domain = refl; problem = refl; plan = refl; written = refl; domain_out = refl; problem_out = refl; outputs_differ = tt; family = refl; size = refl; mode = refl; merges = refl; one_source = tt; implicates = refl; budget = (record { at_least = omega arith; at_most = omega arith }, refl); bound = refl; classical = refl };
-        };
-      };
-    };
-  };
-  of_verb = refl;
-}
+is_with_budget =
+    call_by_words verbs.Classical _ _ _ (said_word (codes "d") ∷ said_word (codes "p") ∷ said_option (codes "budget") (codes "1") ∷ []) ((codes "classical", (refl, refl)), ((codes "d", (refl, refl)), ((codes "p", (refl, refl)), ((codes "--budget", (refl, refl)), ((codes "1", (refl, refl)), tt))))) refl (a_word _ _ _ refl (a_word _ _ _ refl (apart_words (codes "budget") (codes "1") _ _ refl refl (nothing)))) refl refl refl refl
+    (record { files = files_by_computing refl tt; source = usual_source refl; numbers = record { implicates = refl; budget = (record { at_least = omega arith; at_most = omega arith }, refl); bound = refl }; generated = nothing_generated refl })
 
 -- ---- two files
 
@@ -99,7 +83,7 @@ problem_held domain problem = got_after_insert (insert empty (codes "d") domain)
 
 ends : (ws : List (Vec ℕ Global)) (budget : ℕ) → IsCall verbs.Classical ws (solving budget) → (domain problem : List ℕ) (o : Outcome) → o.puts ≡ [] → ClassicalTexts (solving budget) domain problem o → Ends ws (before domain problem) (after domain problem o.text) o.status
 ends ws budget is domain problem o no_file comes =
-    came o (due_by verbs.Classical (solving budget) (record { domain = domain; problem = problem; merges = []; plan = []; written = [] }) o is (record { domain = domain_held domain problem; problem = problem_held domain problem; merges = refl; plan = refl; written = refl }) comes)
+    came o (due_by verbs.Classical (solving budget) (record { domain = domain; problem = problem; merges = []; plan = []; written = [] }) o is (record { domain = held_alone _ _ _ (domain_held domain problem); problem = held_alone _ _ _ (problem_held domain problem); merges = refl; plan = refl; written = refl }) comes)
     (whole refl (record { gets = λ q. refl; puts = λ q. refl; writes = refl }) (rw no_file refl) refl)
 
 -- what the search of their task finds is told

@@ -1,5 +1,5 @@
 -- A run of `bench line 2 --mode models`: it ends with Done, with a plan of one step, merged over the two cells.
-use Rattle.std.proofs.Common.{◌≡◌, ◌<◌, ◌≤◌, ◌⊎◌, ℕ, zero, suc, Bool, ◌||◌, true, false, not, nat_eq, List, [], ◌∷◌, Some, None, Vec, filter, map, slice_get, codes, inl, inr, refl, sym, ap, ◌∙◌, subst, arith}
+use Rattle.std.proofs.Common.{◌≡◌, ◌<◌, ◌≤◌, ◌⊎◌, ℕ, zero, suc, Bool, ◌||◌, true, false, not, nat_eq, List, [], ◌∷◌, Some, Vec, filter, map, slice_get, codes, inl, inr, refl, sym, ap, ◌∙◌, subst, arith}
 use Rattle.std.proofs.lemmas.Bool.{and_parts, or_cases, eqb-true, false≢true, false_from_ne_true}
 use Rattle.std.specs.List.{list_any}
 use Rattle.std.specs.FinMap.{empty}
@@ -57,7 +57,7 @@ use Rattle.kp_words.specs.declared.source.Family.TheVariants as families
 use Rattle.kp_words.specs.Asked.{of_mode, Asked}
 use Rattle.kp_words.specs.declared.verb.Verb.TheVariants as verbs
 use Rattle.kp_words.specs.Command.{IsCall}
-use Rattle.kp_words.proofs.Public.{word_of_bytes}
+use Rattle.kp_words.proofs.Public.{word_of_bytes, call_by_words, files_by_computing, usual_numbers}
 use Rattle.kp_words.specs.Owned.{bare}
 use Rattle.kp_run_prepare.specs.Prepared.{usual, later}
 use Rattle.kp_run_inputs.specs.SourceTables.{by_mode, with_table}
@@ -86,25 +86,9 @@ bench_words = word_of_bytes (codes "bench") (omega arith) ∷ word_of_bytes (cod
 
 is_bench : IsCall verbs.Bench bench_words running
 unfolding encode digits
-is_bench = record {
-  is_command = record {
-    utf8 = ((codes "bench", (refl, refl)), ((codes "line", (refl, refl)), ((codes "2", (refl, refl)), ((codes "--mode", (refl, refl)), ((codes "models", (refl, refl)), tt)))));
-    are_words = record {
-      rest = codes "line" ∷ codes "2" ∷ codes "--mode" ∷ codes "models" ∷ [];
-      are = refl;
-      behind = record {
-        places = codes "line" ∷ codes "2" ∷ [];
-        values = Some (codes "models") ∷ None ∷ [];
-        line = record { said = said_word (codes "line") ∷ said_word (codes "2") ∷ said_option (codes "mode") (codes "models") ∷ []; says = a_word _ _ _ refl (a_word _ _ _ refl (apart_words (codes "mode") (codes "models") _ _ refl refl nothing)); places_are = refl; known = refl; once = refl; values_are = refl };
-        are_of = record {
-          as_many = refl;
-          are_asked = record { domain = refl; problem = refl; plan = refl; written = refl; domain_out = refl; problem_out = refl; outputs_differ = tt; family = refl; size = (record { at_least = omega arith; at_most = omega arith }, refl); mode = refl; merges = refl; one_source = tt; implicates = refl; budget = refl; bound = refl; classical = refl };
-        };
-      };
-    };
-  };
-  of_verb = refl;
-}
+is_bench =
+    call_by_words verbs.Bench _ _ _ (said_word (codes "line") ∷ said_word (codes "2") ∷ said_option (codes "mode") (codes "models") ∷ []) ((codes "bench", (refl, refl)), ((codes "line", (refl, refl)), ((codes "2", (refl, refl)), ((codes "--mode", (refl, refl)), ((codes "models", (refl, refl)), tt))))) refl (a_word _ _ _ refl (a_word _ _ _ refl (apart_words (codes "mode") (codes "models") _ _ refl refl nothing))) refl refl refl refl
+    (record { files = files_by_computing refl tt; source = record { mode = refl; merges = refl; one_source = tt }; numbers = usual_numbers refl; generated = record { family = refl; size = (record { at_least = omega arith; at_most = omega arith }, refl) } })
 
 -- ---- the atoms of the relevant clauses
 

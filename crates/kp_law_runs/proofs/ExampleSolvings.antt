@@ -36,7 +36,7 @@ use Rattle.kp_words.specs.Asked.{of_mode, Asked}
 use Rattle.kp_words.specs.declared.verb.Verb.TheVariants as verbs
 use Rattle.kp_words_options.specs.Words.{nothing, a_word, apart as apart_words, word as said_word, option as said_option}
 use Rattle.kp_words.specs.Command.{IsCall}
-use Rattle.kp_words.proofs.Public.{word_of_bytes}
+use Rattle.kp_words.proofs.Public.{word_of_bytes, call_by_words, files_by_computing, usual_numbers, nothing_generated}
 use Rattle.kp_words.specs.Owned.{bare}
 use Rattle.kp_run_prepare.specs.Texts.{HaveTrees}
 use Rattle.kp_run_prepare.specs.Prepared.{IsPrepared, later}
@@ -46,7 +46,7 @@ use Rattle.kp_run_solve.specs.Solving.{Finds, solves, spends, AreNamed, TellsSol
 use Rattle.kp_run_messages.specs.Searches.{no_plan_text}
 use Rattle.kp_run.specs.Solve.{SolvesTexts}
 use Rattle.kp_run.specs.Ends.{Ends, came}
-use Rattle.kp_run.proofs.Public.{empty_tags_fit, empty_tag_made, nothing_uncovered, example_holding, example_unconditional, got_after_insert, got_beside_insert, task_of_trees_fits, due_by}
+use Rattle.kp_run.proofs.Public.{empty_tags_fit, empty_tag_made, nothing_uncovered, example_holding, example_unconditional, got_after_insert, got_beside_insert, task_of_trees_fits, due_by, held_alone}
 use Rattle.kp_run_prepare.proofs.Public.{problem_of_trees}
 use Rattle.kp_run.specs.Solved.{IsSolved, HasNoPlan, IsSpent}
 use Rattle.kp_law_runs.proofs.Solvings.{solved_is_a_plan, no_plan_is_true, spent_is_true}
@@ -66,25 +66,9 @@ plain = front []
 
 is_plain : IsCall verbs.Solve plain (solving 10000 None)
 unfolding encode
-is_plain = record {
-  is_command = record {
-    utf8 = ((codes "solve", (refl, refl)), ((codes "d", (refl, refl)), ((codes "p", (refl, refl)), ((codes "--mode", (refl, refl)), ((codes "k0", (refl, refl)), tt)))));
-    are_words = record {
-      rest = codes "d" ∷ codes "p" ∷ codes "--mode" ∷ codes "k0" ∷ [];
-      are = refl;
-      behind = record {
-        places = codes "d" ∷ codes "p" ∷ [];
-        values = Some (codes "k0") ∷ None ∷ None ∷ None ∷ None ∷ [];
-        line = record { said = said_word (codes "d") ∷ said_word (codes "p") ∷ said_option (codes "mode") (codes "k0") ∷ []; says = a_word _ _ _ refl (a_word _ _ _ refl (apart_words (codes "mode") (codes "k0") _ _ refl refl (nothing))); places_are = refl; known = refl; once = refl; values_are = refl };
-        are_of = record {
-          as_many = refl;
-          are_asked = record { domain = refl; problem = refl; plan = refl; written = refl; domain_out = refl; problem_out = refl; outputs_differ = tt; family = refl; size = refl; mode = refl; merges = refl; one_source = tt; implicates = refl; budget = refl; bound = refl; classical = refl };
-        };
-      };
-    };
-  };
-  of_verb = refl;
-}
+is_plain =
+    call_by_words verbs.Solve _ _ _ (said_word (codes "d") ∷ said_word (codes "p") ∷ said_option (codes "mode") (codes "k0") ∷ []) ((codes "solve", (refl, refl)), ((codes "d", (refl, refl)), ((codes "p", (refl, refl)), ((codes "--mode", (refl, refl)), ((codes "k0", (refl, refl)), tt))))) refl (a_word _ _ _ refl (a_word _ _ _ refl (apart_words (codes "mode") (codes "k0") _ _ refl refl (nothing)))) refl refl refl refl
+    (record { files = files_by_computing refl tt; source = record { mode = refl; merges = refl; one_source = tt }; numbers = usual_numbers refl; generated = nothing_generated refl })
 
 -- the classical plan is written to c
 abbrev with_classical : List (Vec ℕ Global)
@@ -92,25 +76,9 @@ with_classical = front (word_of_bytes (codes "--classical") (omega arith) ∷ wo
 
 is_with_classical : IsCall verbs.Solve with_classical (solving 10000 (Some (codes "c")))
 unfolding encode
-is_with_classical = record {
-  is_command = record {
-    utf8 = ((codes "solve", (refl, refl)), ((codes "d", (refl, refl)), ((codes "p", (refl, refl)), ((codes "--mode", (refl, refl)), ((codes "k0", (refl, refl)), ((codes "--classical", (refl, refl)), ((codes "c", (refl, refl)), tt)))))));
-    are_words = record {
-      rest = codes "d" ∷ codes "p" ∷ codes "--mode" ∷ codes "k0" ∷ codes "--classical" ∷ codes "c" ∷ [];
-      are = refl;
-      behind = record {
-        places = codes "d" ∷ codes "p" ∷ [];
-        values = Some (codes "k0") ∷ None ∷ None ∷ None ∷ Some (codes "c") ∷ [];
-        line = record { said = said_word (codes "d") ∷ said_word (codes "p") ∷ said_option (codes "mode") (codes "k0") ∷ said_option (codes "classical") (codes "c") ∷ []; says = a_word _ _ _ refl (a_word _ _ _ refl (apart_words (codes "mode") (codes "k0") _ _ refl refl (apart_words (codes "classical") (codes "c") _ _ refl refl (nothing)))); places_are = refl; known = refl; once = refl; values_are = refl };
-        are_of = record {
-          as_many = refl;
-          are_asked = record { domain = refl; problem = refl; plan = refl; written = refl; domain_out = refl; problem_out = refl; outputs_differ = tt; family = refl; size = refl; mode = refl; merges = refl; one_source = tt; implicates = refl; budget = refl; bound = refl; classical = refl };
-        };
-      };
-    };
-  };
-  of_verb = refl;
-}
+is_with_classical =
+    call_by_words verbs.Solve _ _ _ (said_word (codes "d") ∷ said_word (codes "p") ∷ said_option (codes "mode") (codes "k0") ∷ said_option (codes "classical") (codes "c") ∷ []) ((codes "solve", (refl, refl)), ((codes "d", (refl, refl)), ((codes "p", (refl, refl)), ((codes "--mode", (refl, refl)), ((codes "k0", (refl, refl)), ((codes "--classical", (refl, refl)), ((codes "c", (refl, refl)), tt))))))) refl (a_word _ _ _ refl (a_word _ _ _ refl (apart_words (codes "mode") (codes "k0") _ _ refl refl (apart_words (codes "classical") (codes "c") _ _ refl refl (nothing))))) refl refl refl refl
+    (record { files = files_by_computing refl tt; source = record { mode = refl; merges = refl; one_source = tt }; numbers = usual_numbers refl; generated = nothing_generated refl })
 
 -- one state may be expanded
 abbrev with_budget : List (Vec ℕ Global)
@@ -118,25 +86,9 @@ with_budget = front (word_of_bytes (codes "--budget") (omega arith) ∷ word_of_
 
 is_with_budget : IsCall verbs.Solve with_budget (solving 1 None)
 unfolding encode digits
-is_with_budget = record {
-  is_command = record {
-    utf8 = ((codes "solve", (refl, refl)), ((codes "d", (refl, refl)), ((codes "p", (refl, refl)), ((codes "--mode", (refl, refl)), ((codes "k0", (refl, refl)), ((codes "--budget", (refl, refl)), ((codes "1", (refl, refl)), tt)))))));
-    are_words = record {
-      rest = codes "d" ∷ codes "p" ∷ codes "--mode" ∷ codes "k0" ∷ codes "--budget" ∷ codes "1" ∷ [];
-      are = refl;
-      behind = record {
-        places = codes "d" ∷ codes "p" ∷ [];
-        values = Some (codes "k0") ∷ None ∷ None ∷ Some (codes "1") ∷ None ∷ [];
-        line = record { said = said_word (codes "d") ∷ said_word (codes "p") ∷ said_option (codes "mode") (codes "k0") ∷ said_option (codes "budget") (codes "1") ∷ []; says = a_word _ _ _ refl (a_word _ _ _ refl (apart_words (codes "mode") (codes "k0") _ _ refl refl (apart_words (codes "budget") (codes "1") _ _ refl refl (nothing)))); places_are = refl; known = refl; once = refl; values_are = refl };
-        are_of = record {
-          as_many = refl;
-          are_asked = record { domain = refl; problem = refl; plan = refl; written = refl; domain_out = refl; problem_out = refl; outputs_differ = tt; family = refl; size = refl; mode = refl; merges = refl; one_source = tt; implicates = refl; budget = (record { at_least = omega arith; at_most = omega arith }, refl); bound = refl; classical = refl };
-        };
-      };
-    };
-  };
-  of_verb = refl;
-}
+is_with_budget =
+    call_by_words verbs.Solve _ _ _ (said_word (codes "d") ∷ said_word (codes "p") ∷ said_option (codes "mode") (codes "k0") ∷ said_option (codes "budget") (codes "1") ∷ []) ((codes "solve", (refl, refl)), ((codes "d", (refl, refl)), ((codes "p", (refl, refl)), ((codes "--mode", (refl, refl)), ((codes "k0", (refl, refl)), ((codes "--budget", (refl, refl)), ((codes "1", (refl, refl)), tt))))))) refl (a_word _ _ _ refl (a_word _ _ _ refl (apart_words (codes "mode") (codes "k0") _ _ refl refl (apart_words (codes "budget") (codes "1") _ _ refl refl (nothing))))) refl refl refl refl
+    (record { files = files_by_computing refl tt; source = record { mode = refl; merges = refl; one_source = tt }; numbers = record { implicates = refl; budget = (record { at_least = omega arith; at_most = omega arith }, refl); bound = refl }; generated = nothing_generated refl })
 
 -- ---- two files
 
@@ -158,7 +110,7 @@ problem_held domain problem = got_after_insert (insert empty (codes "d") domain)
 
 ends : (ws : List (Vec ℕ Global)) (budget : ℕ) (name : Option (List ℕ)) → IsCall verbs.Solve ws (solving budget name) → (domain problem : List ℕ) (o : Outcome) → SolvesTexts (solving budget name) domain problem [] o → Ends ws (before domain problem) (after domain problem o) o.status
 ends ws budget name is domain problem o comes =
-    came o (due_by verbs.Solve (solving budget name) (record { domain = domain; problem = problem; merges = []; plan = []; written = [] }) o is (record { domain = domain_held domain problem; problem = problem_held domain problem; merges = refl; plan = refl; written = refl }) comes)
+    came o (due_by verbs.Solve (solving budget name) (record { domain = domain; problem = problem; merges = []; plan = []; written = [] }) o is (record { domain = held_alone _ _ _ (domain_held domain problem); problem = held_alone _ _ _ (problem_held domain problem); merges = refl; plan = refl; written = refl }) comes)
     (whole refl (record { gets = λ q. refl; puts = λ q. refl; writes = refl }) refl refl)
 
 -- two files and the table of the empty tag: what the search of their task finds is told

@@ -36,7 +36,7 @@ use Rattle.kp_words_options.specs.Words.{nothing, a_word, apart as apart_words, 
 use Rattle.kp_words.specs.Asked.{Asked}
 use Rattle.kp_words.specs.declared.verb.Verb.TheVariants as verbs
 use Rattle.kp_words.specs.Command.{IsCall}
-use Rattle.kp_words.proofs.Public.{word_of_bytes, example_two_apart}
+use Rattle.kp_words.proofs.Public.{word_of_bytes, example_two_apart, call_by_words, files_by_computing, usual_numbers, nothing_generated}
 use Rattle.kp_words.specs.Owned.{bare}
 use Rattle.kp_run_prepare.specs.Prepared.{usual, later}
 use Rattle.kp_run_inputs.specs.SourceTables.{by_mode, by_file, with_table}
@@ -46,7 +46,7 @@ use Rattle.kp_run.specs.Solve.{SolvesTexts}
 use Rattle.kp_run.specs.Ends.{Ends, came}
 use Rattle.kp_run.specs.Completeness.{PrintsComplete, RanComplete, one_text, IsOfTheSame, HoldsPlan}
 use Rattle.kp_run.specs.Solved.{Tells}
-use Rattle.kp_run.proofs.Public.{empty_tags_fit, table_of_none, empty_tag_made_in_modes, nothing_uncovered, complete_is_told, example_exchange_action, example_holding, example_due_with, example_unconditional, got_after_insert, got_beside_insert, due_by}
+use Rattle.kp_run.proofs.Public.{empty_tags_fit, table_of_none, empty_tag_made_in_modes, nothing_uncovered, complete_is_told, example_exchange_action, example_holding, example_due_with, example_unconditional, got_after_insert, got_beside_insert, due_by, held_alone}
 use Rattle.kp_law_runs.specs.Solve.{GivenHaveNoPlan}
 use Rattle.kp_law_runs.proofs.SomeModes.{some_modes_tell_complete, no_plan_in_some_modes}
 use Rattle.kp_law_runs.proofs.ExampleFiles.{trees, prepared, to_both, to_both_tree, both_trees, both_prepared}
@@ -107,25 +107,9 @@ by_models = record (bare verbs.Translate) { domain = codes "d"; problem = codes 
 
 is_in_models : IsCall verbs.Translate in_models by_models
 unfolding encode
-is_in_models = record {
-  is_command = record {
-    utf8 = ((codes "translate", (refl, refl)), ((codes "d", (refl, refl)), ((codes "p", (refl, refl)), ((codes "od", (refl, refl)), ((codes "op", (refl, refl)), ((codes "--mode", (refl, refl)), ((codes "models", (refl, refl)), tt)))))));
-    are_words = record {
-      rest = codes "d" ∷ codes "p" ∷ codes "od" ∷ codes "op" ∷ codes "--mode" ∷ codes "models" ∷ [];
-      are = refl;
-      behind = record {
-        places = codes "d" ∷ codes "p" ∷ codes "od" ∷ codes "op" ∷ [];
-        values = Some (codes "models") ∷ None ∷ None ∷ [];
-        line = record { said = said_word (codes "d") ∷ said_word (codes "p") ∷ said_word (codes "od") ∷ said_word (codes "op") ∷ said_option (codes "mode") (codes "models") ∷ []; says = a_word _ _ _ refl (a_word _ _ _ refl (a_word _ _ _ refl (a_word _ _ _ refl (apart_words (codes "mode") (codes "models") _ _ refl refl (nothing))))); places_are = refl; known = refl; once = refl; values_are = refl };
-        are_of = record {
-          as_many = refl;
-          are_asked = record { domain = refl; problem = refl; plan = refl; written = refl; domain_out = refl; problem_out = refl; outputs_differ = example_two_apart (codes "od") (codes "op") refl; family = refl; size = refl; mode = refl; merges = refl; one_source = tt; implicates = refl; budget = refl; bound = refl; classical = refl };
-        };
-      };
-    };
-  };
-  of_verb = refl;
-}
+is_in_models =
+    call_by_words verbs.Translate _ _ _ (said_word (codes "d") ∷ said_word (codes "p") ∷ said_word (codes "od") ∷ said_word (codes "op") ∷ said_option (codes "mode") (codes "models") ∷ []) ((codes "translate", (refl, refl)), ((codes "d", (refl, refl)), ((codes "p", (refl, refl)), ((codes "od", (refl, refl)), ((codes "op", (refl, refl)), ((codes "--mode", (refl, refl)), ((codes "models", (refl, refl)), tt))))))) refl (a_word _ _ _ refl (a_word _ _ _ refl (a_word _ _ _ refl (a_word _ _ _ refl (apart_words (codes "mode") (codes "models") _ _ refl refl (nothing)))))) refl refl refl refl
+    (record { files = files_by_computing refl (example_two_apart (codes "od") (codes "op") refl); source = record { mode = refl; merges = refl; one_source = tt }; numbers = usual_numbers refl; generated = nothing_generated refl })
 
 -- what both translations come to: their output names are the same
 abbrev outcome : Outcome
@@ -163,25 +147,9 @@ solving = record (bare verbs.Solve) { domain = codes "d"; problem = codes "p"; m
 
 is_solve : IsCall verbs.Solve solve_in_models solving
 unfolding encode
-is_solve = record {
-  is_command = record {
-    utf8 = ((codes "solve", (refl, refl)), ((codes "d", (refl, refl)), ((codes "p", (refl, refl)), ((codes "--mode", (refl, refl)), ((codes "models", (refl, refl)), tt)))));
-    are_words = record {
-      rest = codes "d" ∷ codes "p" ∷ codes "--mode" ∷ codes "models" ∷ [];
-      are = refl;
-      behind = record {
-        places = codes "d" ∷ codes "p" ∷ [];
-        values = Some (codes "models") ∷ None ∷ None ∷ None ∷ None ∷ [];
-        line = record { said = said_word (codes "d") ∷ said_word (codes "p") ∷ said_option (codes "mode") (codes "models") ∷ []; says = a_word _ _ _ refl (a_word _ _ _ refl (apart_words (codes "mode") (codes "models") _ _ refl refl (nothing))); places_are = refl; known = refl; once = refl; values_are = refl };
-        are_of = record {
-          as_many = refl;
-          are_asked = record { domain = refl; problem = refl; plan = refl; written = refl; domain_out = refl; problem_out = refl; outputs_differ = tt; family = refl; size = refl; mode = refl; merges = refl; one_source = tt; implicates = refl; budget = refl; bound = refl; classical = refl };
-        };
-      };
-    };
-  };
-  of_verb = refl;
-}
+is_solve =
+    call_by_words verbs.Solve _ _ _ (said_word (codes "d") ∷ said_word (codes "p") ∷ said_option (codes "mode") (codes "models") ∷ []) ((codes "solve", (refl, refl)), ((codes "d", (refl, refl)), ((codes "p", (refl, refl)), ((codes "--mode", (refl, refl)), ((codes "models", (refl, refl)), tt))))) refl (a_word _ _ _ refl (a_word _ _ _ refl (apart_words (codes "mode") (codes "models") _ _ refl refl (nothing)))) refl refl refl refl
+    (record { files = files_by_computing refl tt; source = record { mode = refl; merges = refl; one_source = tt }; numbers = usual_numbers refl; generated = nothing_generated refl })
 
 comes_to_none : SolvesTexts solving exchange_text to_both [] no_plan
 comes_to_none = later exchange_tree to_both_tree both_trees both_prepared (with_table (empty_tag exchange_tree to_both_tree) (by_mode modes.Models (empty_tag exchange_tree to_both_tree) made_for_both)
@@ -189,7 +157,7 @@ comes_to_none = later exchange_tree to_both_tree both_trees both_prepared (with_
 
 ends_with_none : Ends solve_in_models (solving_from exchange_text to_both) (solving_to exchange_text to_both no_plan) status.Negative
 ends_with_none =
-    came no_plan (due_by verbs.Solve solving (record { domain = exchange_text; problem = to_both; merges = []; plan = []; written = [] }) no_plan is_solve (record { domain = domain_held exchange_text to_both; problem = problem_held exchange_text to_both; merges = refl; plan = refl; written = refl }) comes_to_none)
+    came no_plan (due_by verbs.Solve solving (record { domain = exchange_text; problem = to_both; merges = []; plan = []; written = [] }) no_plan is_solve (record { domain = held_alone _ _ _ (domain_held exchange_text to_both); problem = held_alone _ _ _ (problem_held exchange_text to_both); merges = refl; plan = refl; written = refl }) comes_to_none)
     (whole refl (record { gets = λ q. refl; puts = λ q. refl; writes = refl }) refl refl)
 
 none_given : GivenHaveNoPlan (example_holding exchange_text to_both) solving (solving_from exchange_text to_both) (solving_to exchange_text to_both no_plan)
@@ -205,25 +173,9 @@ by_merges = record (bare verbs.Translate) { domain = codes "d"; problem = codes 
 
 is_with_merges : IsCall verbs.Translate with_merges by_merges
 unfolding encode
-is_with_merges = record {
-  is_command = record {
-    utf8 = ((codes "translate", (refl, refl)), ((codes "d", (refl, refl)), ((codes "p", (refl, refl)), ((codes "od", (refl, refl)), ((codes "op", (refl, refl)), ((codes "--merges", (refl, refl)), ((codes "m", (refl, refl)), tt)))))));
-    are_words = record {
-      rest = codes "d" ∷ codes "p" ∷ codes "od" ∷ codes "op" ∷ codes "--merges" ∷ codes "m" ∷ [];
-      are = refl;
-      behind = record {
-        places = codes "d" ∷ codes "p" ∷ codes "od" ∷ codes "op" ∷ [];
-        values = None ∷ Some (codes "m") ∷ None ∷ [];
-        line = record { said = said_word (codes "d") ∷ said_word (codes "p") ∷ said_word (codes "od") ∷ said_word (codes "op") ∷ said_option (codes "merges") (codes "m") ∷ []; says = a_word _ _ _ refl (a_word _ _ _ refl (a_word _ _ _ refl (a_word _ _ _ refl (apart_words (codes "merges") (codes "m") _ _ refl refl (nothing))))); places_are = refl; known = refl; once = refl; values_are = refl };
-        are_of = record {
-          as_many = refl;
-          are_asked = record { domain = refl; problem = refl; plan = refl; written = refl; domain_out = refl; problem_out = refl; outputs_differ = example_two_apart (codes "od") (codes "op") refl; family = refl; size = refl; mode = refl; merges = refl; one_source = tt; implicates = refl; budget = refl; bound = refl; classical = refl };
-        };
-      };
-    };
-  };
-  of_verb = refl;
-}
+is_with_merges =
+    call_by_words verbs.Translate _ _ _ (said_word (codes "d") ∷ said_word (codes "p") ∷ said_word (codes "od") ∷ said_word (codes "op") ∷ said_option (codes "merges") (codes "m") ∷ []) ((codes "translate", (refl, refl)), ((codes "d", (refl, refl)), ((codes "p", (refl, refl)), ((codes "od", (refl, refl)), ((codes "op", (refl, refl)), ((codes "--merges", (refl, refl)), ((codes "m", (refl, refl)), tt))))))) refl (a_word _ _ _ refl (a_word _ _ _ refl (a_word _ _ _ refl (a_word _ _ _ refl (apart_words (codes "merges") (codes "m") _ _ refl refl (nothing)))))) refl refl refl refl
+    (record { files = files_by_computing refl (example_two_apart (codes "od") (codes "op") refl); source = record { mode = refl; merges = refl; one_source = tt }; numbers = usual_numbers refl; generated = nothing_generated refl })
 
 -- the file of merges has a line feed alone
 abbrev merges_file : List ℕ
@@ -253,7 +205,7 @@ merges_held = got_after_insert held (codes "m") merges_file
 
 ends_with_merges : Ends with_merges (from before) (to before) status.Done
 ends_with_merges =
-    came outcome (due_by verbs.Translate by_merges (record { domain = exchange_text; problem = from_p_to_q_text; merges = (merges_file ∷ []); plan = []; written = [] }) outcome is_with_merges (record { domain = first_held; problem = second_held; merges = ap (λ x. x ∷ []) merges_held; plan = refl; written = refl }) comes_by_merges)
+    came outcome (due_by verbs.Translate by_merges (record { domain = exchange_text; problem = from_p_to_q_text; merges = (merges_file ∷ []); plan = []; written = [] }) outcome is_with_merges (record { domain = held_alone _ _ _ first_held; problem = held_alone _ _ _ second_held; merges = ap (λ x. x ∷ []) merges_held; plan = refl; written = refl }) comes_by_merges)
     (whole refl (record { gets = λ q. refl; puts = λ q. refl; writes = refl }) refl refl)
 
 ran : RanComplete Ends with_merges by_merges before (with_outputs before)

@@ -28,9 +28,10 @@ use Rattle.kp_words.specs.declared.verb.Verb.TheVariants as verbs
 use Rattle.kp_words_options.specs.Words.{nothing, a_word, word as said_word}
 use Rattle.kp_words.specs.Command.{IsCall, AreUtf8}
 use Rattle.kp_words.specs.Owned.{bare}
+use Rattle.kp_words.proofs.Public.{call_by_words, files_by_computing, usual_source, usual_numbers, nothing_generated}
 use Rattle.kp_run.specs.Strip.{StripsText, no_plan, no_strip, strips}
 use Rattle.kp_run.specs.Outcomes.{IsDue}
-use Rattle.kp_run.proofs.Public.{got_after_insert, due_by}
+use Rattle.kp_run.proofs.Public.{got_after_insert, due_by, held_alone}
 
 -- ---- the command
 
@@ -39,31 +40,15 @@ command = record (bare verbs.Strip) { written = codes "t" }
 
 is_strip : (words : List (Vec ℕ Global)) → map (λ w. w.items) words ≡ codes "strip" ∷ codes "t" ∷ [] → IsCall verbs.Strip words command
 unfolding encode
-is_strip words e = record {
-  is_command = record {
-    utf8 = subst AreUtf8 (sym e) ((codes "strip", (refl, refl)), ((codes "t", (refl, refl)), tt));
-    are_words = record {
-      rest = codes "t" ∷ [];
-      are = e;
-      behind = record {
-        places = codes "t" ∷ [];
-        values = [];
-        line = record { said = said_word (codes "t") ∷ []; says = a_word _ _ _ refl (nothing); places_are = refl; known = refl; once = refl; values_are = refl };
-        are_of = record {
-          as_many = refl;
-          are_asked = record { domain = refl; problem = refl; plan = refl; written = refl; domain_out = refl; problem_out = refl; outputs_differ = tt; family = refl; size = refl; mode = refl; merges = refl; one_source = tt; implicates = refl; budget = refl; bound = refl; classical = refl };
-        };
-      };
-    };
-  };
-  of_verb = refl;
-}
+is_strip words e =
+    call_by_words verbs.Strip words command _ (said_word (codes "t") ∷ []) (subst AreUtf8 (sym e) ((codes "strip", (refl, refl)), ((codes "t", (refl, refl)), tt))) e (a_word _ _ _ refl (nothing)) refl refl refl refl
+    (record { files = files_by_computing refl tt; source = usual_source refl; numbers = usual_numbers refl; generated = nothing_generated refl })
 
 -- what the text of its file is stripped to is due
 due : (words : List (Vec ℕ Global)) (text : List ℕ) (o : Outcome) → map (λ w. w.items) words ≡ codes "strip" ∷ codes "t" ∷ [] → StripsText text o → IsDue words (Some (insert empty (codes "t") text)) o
 due words text o e h =
     due_by verbs.Strip command (record { domain = []; problem = []; merges = []; plan = []; written = text }) o (is_strip words e)
-    (record { domain = refl; problem = refl; merges = refl; plan = refl; written = got_after_insert empty (codes "t") text }) h
+    (record { domain = refl; problem = refl; merges = refl; plan = refl; written = held_alone _ _ _ (got_after_insert empty (codes "t") text) }) h
 
 abbrev word_at : List ℕ → ℕ → Word
 word_at text byte = record { text = text; byte = byte }

@@ -1,5 +1,5 @@
 -- Calls for the width that end with Done and with Negative: the premises of what is said of such runs are met, from the bytes on. One problem has no target, and its width is 0; the other is over the bound of 0.
-use Rattle.std.proofs.Common.{◌≡◌, ◌≢◌, ◌<◌, ◌≤◌, ℕ, zero, suc, Bool, true, false, not, nat_eq, List, [], ◌∷◌, Some, None, Vec, filter, map, length, codes, inl, inr, refl, sym, ap, ◌∙◌, subst, arith}
+use Rattle.std.proofs.Common.{◌≡◌, ◌≢◌, ◌<◌, ◌≤◌, ℕ, zero, suc, Bool, true, false, not, nat_eq, List, [], ◌∷◌, Some, Vec, filter, map, length, codes, inl, inr, refl, sym, ap, ◌∙◌, subst, arith}
 use Rattle.std.proofs.lemmas.Bool.{false≢true}
 use Rattle.std.specs.FinMap.{empty, get, insert}
 use Rattle.std.specs.declared.alloc.Global.{Global}
@@ -38,13 +38,13 @@ use Rattle.kp_words.specs.Asked.{Asked}
 use Rattle.kp_words.specs.declared.verb.Verb.TheVariants as verbs
 use Rattle.kp_words_options.specs.Words.{nothing, a_word, word as said_word}
 use Rattle.kp_words.specs.Command.{IsCall}
-use Rattle.kp_words.proofs.Public.{word_of_bytes, example_is_width}
+use Rattle.kp_words.proofs.Public.{word_of_bytes, example_is_width, call_by_words, files_by_computing, usual_source, usual_numbers, nothing_generated}
 use Rattle.kp_words.specs.Owned.{bare}
 use Rattle.kp_run_prepare.specs.Texts.{HaveTrees}
 use Rattle.kp_run_prepare.specs.Prepared.{usual, IsPrepared, later}
 use Rattle.kp_run.specs.Width.{tells_width, with_report}
 use Rattle.kp_run.specs.Ends.{Ends, came}
-use Rattle.kp_run.proofs.Public.{file_reads_by_computing, example_holding, example_has_state, example_few_primes, got_after_insert, got_beside_insert, prepared_is_proper, due_by}
+use Rattle.kp_run.proofs.Public.{file_reads_by_computing, example_holding, example_has_state, example_few_primes, got_after_insert, got_beside_insert, prepared_is_proper, due_by, held_alone}
 use Rattle.kp_law_runs.specs.Width.{IsWidthTold, IsTooWide}
 use Rattle.kp_law_runs.proofs.Widths.{widths_are_true}
 use Rattle.kp_law_runs.proofs.ExampleFiles.{within, never_clashing, turn, no_atom, chain, chain_tree, chain_reads}
@@ -59,25 +59,9 @@ measuring bound = record (bare verbs.Width) { domain = codes "d"; problem = code
 
 pub is_plain : IsCall verbs.Width (front []) (measuring 3)
 unfolding encode
-is_plain = record {
-  is_command = record {
-    utf8 = ((codes "width", (refl, refl)), ((codes "d", (refl, refl)), ((codes "p", (refl, refl)), tt)));
-    are_words = record {
-      rest = codes "d" ∷ codes "p" ∷ [];
-      are = refl;
-      behind = record {
-        places = codes "d" ∷ codes "p" ∷ [];
-        values = None ∷ None ∷ [];
-        line = record { said = said_word (codes "d") ∷ said_word (codes "p") ∷ []; says = a_word _ _ _ refl (a_word _ _ _ refl (nothing)); places_are = refl; known = refl; once = refl; values_are = refl };
-        are_of = record {
-          as_many = refl;
-          are_asked = record { domain = refl; problem = refl; plan = refl; written = refl; domain_out = refl; problem_out = refl; outputs_differ = tt; family = refl; size = refl; mode = refl; merges = refl; one_source = tt; implicates = refl; budget = refl; bound = refl; classical = refl };
-        };
-      };
-    };
-  };
-  of_verb = refl;
-}
+is_plain =
+    call_by_words verbs.Width _ _ _ (said_word (codes "d") ∷ said_word (codes "p") ∷ []) ((codes "width", (refl, refl)), ((codes "d", (refl, refl)), ((codes "p", (refl, refl)), tt))) refl (a_word _ _ _ refl (a_word _ _ _ refl (nothing))) refl refl refl refl
+    (record { files = files_by_computing refl tt; source = usual_source refl; numbers = usual_numbers refl; generated = nothing_generated refl })
 
 abbrev with_bound : List (Vec ℕ Global)
 with_bound = word_of_bytes (codes "width") (omega arith) ∷ word_of_bytes (codes "--bound") (omega arith) ∷ word_of_bytes (codes "0") (omega arith) ∷ word_of_bytes (codes "d") (omega arith) ∷ word_of_bytes (codes "p") (omega arith) ∷ []
@@ -104,7 +88,7 @@ pub ends : (ws : List (Vec ℕ Global)) (bound : ℕ) → IsCall verbs.Width ws 
     → Ends ws (before domain problem) (after domain problem (tells_width (ground_of d p) bound report).text) (tells_width (ground_of d p) bound report).status
 ends ws bound is domain problem d p have ready report reports no_file =
     let o = tells_width (ground_of d p) bound report in
-    came o (due_by verbs.Width (measuring bound) (record { domain = domain; problem = problem; merges = []; plan = []; written = [] }) o is (record { domain = domain_held domain problem; problem = problem_held domain problem; merges = refl; plan = refl; written = refl }) (later d p have ready (with_report report reports refl)))
+    came o (due_by verbs.Width (measuring bound) (record { domain = domain; problem = problem; merges = []; plan = []; written = [] }) o is (record { domain = held_alone _ _ _ (domain_held domain problem); problem = held_alone _ _ _ (problem_held domain problem); merges = refl; plan = refl; written = refl }) (later d p have ready (with_report report reports refl)))
     (whole refl (record { gets = λ q. refl; puts = λ q. refl; writes = refl }) (rw no_file refl) refl)
 
 -- ---- nothing is wanted: there is no target

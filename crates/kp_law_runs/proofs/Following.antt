@@ -1,6 +1,9 @@
 -- What follows from how a run ends.
-use Rattle.std.proofs.Common.{◌≡◌, ◌⊎◌, ◌++◌, ℕ, Bool, true, false, List, [], ◌∷◌, Option, Some, None, Vec, map, codes, if◌then◌else◌, inl, inr, refl, sym, ap, ◌∙◌, subst}
+use Rattle.std.proofs.Common.{◌≡◌, ◌⊎◌, ◌++◌, ◌||◌, ℕ, Bool, true, false, List, [], ◌∷◌, Option, Some, None, Vec, map, filter_map, bytes_eq, codes, if◌then◌else◌, inl, inr, refl, sym, ap, ◌∙◌, subst}
 use Rattle.std.specs.FinMap.{get}
+use Rattle.std.specs.List.{list_all}
+use Rattle.std.proofs.lemmas.Bool.{false≢true}
+use Rattle.std.proofs.lemmas.Slice.Eq.{bytes_eq-Decides}
 use Rattle.std.specs.declared.alloc.Global.{Global}
 use Rattle.kp_base.specs.Lists.{Member}
 use Rattle.kp_outside.specs.Outside.{FileMap, with_bytes}
@@ -9,18 +12,17 @@ use Rattle.kp_run_outcome.specs.declared.outcome.Outcome.{Outcome}
 use Rattle.kp_run_outcome.specs.declared.status.Status.{Status}
 use Rattle.kp_run_outcome.specs.declared.status.Status.TheVariants as status
 use Rattle.kp_run_outcome.specs.Ends.{Outside, IsAnswer, AreHeld, with_files, StopsAt, CarriesOut, whole, put_failed, put_no_memory, print_failed, print_no_memory}
-use Rattle.kp_words.specs.Asked.{Asked, source_of}
+use Rattle.kp_words.specs.Asked.{Asked}
 use Rattle.kp_words_options.specs.Words.{has_text}
 use Rattle.kp_words.specs.Forms.{form}
-use Rattle.kp_words.specs.Command.{IsCommand, file_of, named, placed, optional, inputs_by, inputs_of, outputs_of}
+use Rattle.kp_words.specs.Command.{IsCommand, file_under, file_among, if_named, inputs_of, outputs_of}
 use Rattle.kp_run_messages.specs.Refusals.{nothing}
 use Rattle.kp_run.specs.Translate.{done}
-use Rattle.kp_run.specs.Contents.{Contents, HoldsIf, AreContents}
+use Rattle.kp_run.specs.Contents.{Contents, IsContent, AreContentsUnder, AreContents}
 use Rattle.kp_run.specs.Outcomes.{IsDue, usage, of_command}
 use Rattle.kp_run.specs.Ends.{Ends, came, read_failed, no_memory}
 use Rattle.kp_law_runs.specs.Follows.{AnswersAreWhole, TheDueIsCarriedOut, IsAnsweredBy, TheDueIsTheAnswer, EndsWith, OnlyDonePuts, DonePutsTheOutputs, OthersPutNothing, NoCommandPutsNothing, none_put, some_put, all_put, PutsAreOfTheDue, none_told, some_told, TextsAreOfTheDue, ReadFaultsTellNothing, ReadFaultsAreTrue, WriteFaultsAreTrue, FailedGetsAreTold, FailedWritesAreTold, MissingInputsAreFaults, InputsAreReadInOrder}
-use Rattle.kp_words.proofs.Public.{words_are_one_command}
-use Rattle.kp_words.specs.declared.verb.Verb.{Verb}
+use Rattle.kp_words.proofs.Public.{words_are_one_command, input_names, reads_are_inputs}
 use Rattle.kp_run.proofs.Public.{outcomes_are_answers}
 use Rattle.kp_law_runs.proofs.OneOutcome.{one_outcome}
 use Rattle.kp_law_runs.proofs.ByVerb.{comes_under}
@@ -203,35 +205,59 @@ not_missing m name (n ∷ ns) [] held at missing = absurd cc
 not_missing m name (n ∷ ns) (t ∷ ts) held (inl is) missing = absurd (let here : get m n ≡ Some t = cc in cc (ap (get m) is, here, missing))
 not_missing m name (n ∷ ns) (t ∷ ts) held (inr at) missing = let rest : map (get m) ns ≡ map Some ts = cc in not_missing m name ns ts rest at missing
 
-module _ (m : FileMap) (name : List ℕ) (missing : get m name ≡ None) where
-  in_front : (b : Bool) (n content : List ℕ) (rest : List (List ℕ)) → HoldsIf b (Some m) n content → (Member rest name → ⊥) → Member (if b then n ∷ rest else rest) name → ⊥
-  in_front true n content rest held others (inl is) = absurd (let here : get m n ≡ Some content = held in cc (ap (get m) is, here, missing))
-  in_front true n content rest held others (inr at) = others at
-  in_front false n content rest held others at = others at
+-- a file stands under some name
+under_name : (f : List ℕ → Option (List ℕ)) (p : List ℕ → Bool) (names : List (List ℕ)) (name : List ℕ) → list_all p names ≡ true → Member (filter_map f names) name → (n : List ℕ) × (p n ≡ true) × (has_text names n ≡ true) × (f n ≡ Some name)
+under_name f p [] name all found = absurd found
+under_name f p (x ∷ xs) name all found = by (p x) refl (f x) refl (under_name f p xs name) all found
+  where
+    or_true : (b d : Bool) → d ≡ true → (b || d) ≡ true
+    or_true true d e = refl
+    or_true false d e = e
 
-  merges_in_front : (b : Bool) (o : Option (List ℕ)) (merges rest : List (List ℕ)) → AreHeld (Some m) (if b then named o [] else []) merges → (Member rest name → ⊥) → Member (if b then named o rest else rest) name → ⊥
-  merges_in_front false o merges rest held others at = others at
-  merges_in_front true None merges rest held others at = others at
-  merges_in_front true (Some n) merges rest held others (inl is) = not_missing m name (n ∷ []) merges held (inl is) missing
-  merges_in_front true (Some n) merges rest held others (inr at) = others at
+    by : (b : Bool) → p x ≡ b → (o : Option (List ℕ)) → f x ≡ o → (list_all p xs ≡ true → Member (filter_map f xs) name → (n : List ℕ) × (p n ≡ true) × (has_text xs n ≡ true) × (f n ≡ Some name))
+        → list_all p (x ∷ xs) ≡ true → Member (filter_map f (x ∷ xs)) name → (n : List ℕ) × (p n ≡ true) × (has_text (x ∷ xs) n ≡ true) × (f n ≡ Some name)
+    by false pe o e rest all found = absurd (false≢true (rw pe at all))
+    by true pe None e rest all found = let r = rest (rw pe at all) (rw e at found) in (r.0, r.1, or_true (bytes_eq x r.0) (has_text xs r.0) r.2, r.3)
+    by true pe (Some y) e rest all found = elim (rw e at found) [
+      | inl same ↦ (x, pe, ap (λ (b : Bool). b || has_text xs x) ((bytes_eq-Decides x x).1 refl), e ∙ ap Some same)
+      | inr more ↦ let r = rest (rw pe at all) more in (r.0, r.1, or_true (bytes_eq x r.0) (has_text xs r.0) r.2, r.3)
+    ]
+
+-- a text that is one of some is a member of them
+among : (xs : List (List ℕ)) (n : List ℕ) → has_text xs n ≡ true → Member xs n
+among [] n e = absurd (false≢true e)
+among (x ∷ xs) n e = by (bytes_eq x n) refl (among xs n) e
+  where
+    by : (b : Bool) → bytes_eq x n ≡ b → (has_text xs n ≡ true → Member xs n) → has_text (x ∷ xs) n ≡ true → Member (x ∷ xs) n
+    by true same rest e = inl ((bytes_eq-Decides x n).0 same)
+    by false other rest e = inr (rest (rw other at e))
+
+module _ (m : FileMap) (name : List ℕ) (missing : get m name ≡ None) (names : List (List ℕ)) (c : Asked) (t : Contents) (are : AreContentsUnder names (Some m) c t) where
+  file_here : (x n : List ℕ) → x ≡ n → has_text names n ≡ true → file_under c n ≡ Some name → file_among names c x ≡ Some name
+  file_here x n same has is = ap (λ (b : Bool). if b then file_under c x else None) (ap (has_text names) same ∙ has) ∙ (ap (file_under c) same ∙ is)
+
+  no_content : (o : Option (List ℕ)) (content : List ℕ) → IsContent (Some m) o content → o ≡ Some name → ⊥
+  no_content o content held is = not_missing m name (name ∷ []) (content ∷ []) (subst (λ (z : Option (List ℕ)). IsContent (Some m) z content) is held) (inl refl) missing
 
   -- no name of a command whose files are held is missing
-  none_read : (v : Verb) (c : Asked) (t : Contents) → AreContents (Some m) v c t → Member (inputs_by v c) name → ⊥
-  none_read v c t are =
-      let rest_t = placed v (codes "T") c.written [] in
-      let rest_plan = placed v (codes "PLAN") c.plan rest_t in
-      let rest_merges = optional v (codes "merges") (file_of (source_of c)) rest_plan in
-      let rest_p = placed v (codes "P") c.problem rest_merges in
-      in_front (has_text (form v).places (codes "D")) c.domain t.domain rest_p are.domain
-      (in_front (has_text (form v).places (codes "P")) c.problem t.problem rest_merges are.problem
-      (merges_in_front (has_text (form v).options (codes "merges")) (file_of (source_of c)) t.merges rest_plan are.merges
-      (in_front (has_text (form v).places (codes "PLAN")) c.plan t.plan rest_t are.plan
-      (in_front (has_text (form v).places (codes "T")) c.written t.written [] are.written (λ at. at)))))
+  none_under : (n : List ℕ) → Member input_names n → has_text names n ≡ true → file_under c n ≡ Some name → ⊥
+  none_under n (inl e) has is = no_content (file_among names c (codes "D")) t.domain are.domain (file_here (codes "D") n e has is)
+  none_under n (inr (inl e)) has is = no_content (file_among names c (codes "P")) t.problem are.problem (file_here (codes "P") n e has is)
+  none_under n (inr (inr (inl e))) has is =
+      not_missing m name (name ∷ []) t.merges (subst (λ (z : Option (List ℕ)). AreHeld (Some m) (if_named z) t.merges) (file_here (codes "merges") n e has is) are.merges) (inl refl) missing
+  none_under n (inr (inr (inr (inl e)))) has is = no_content (file_among names c (codes "PLAN")) t.plan are.plan (file_here (codes "PLAN") n e has is)
+  none_under n (inr (inr (inr (inr (inl e))))) has is = no_content (file_among names c (codes "T")) t.written are.written (file_here (codes "T") n e has is)
+  none_under n (inr (inr (inr (inr (inr e))))) has is = absurd e
+
+none_read : (m : FileMap) (name : List ℕ) → get m name ≡ None → (c : Asked) (t : Contents) → AreContents (Some m) c t → Member (inputs_of c) name → ⊥
+none_read m name missing c t are found =
+    let u = under_name (file_under c) (has_text input_names) (form c.verb).reads name (reads_are_inputs c.verb) found in
+    none_under m name missing (form c.verb).reads c t are u.0 (among input_names u.0 u.1) u.2 u.3
 
 -- so a run came to no outcome of the command
 none_due : (words : List (Vec ℕ Global)) (m : FileMap) (c : Asked) (name : List ℕ) (o : Outcome) → IsCommand words c → Member (inputs_of c) name → get m name ≡ None → IsDue words (Some m) o → ⊥
 none_due words m c name _ is at missing (usage a) = a c is
-none_due words m c name o is at missing (of_command d t _ so held comes) = none_read m name missing d.verb d t held (subst (λ x. Member (inputs_of x) name) (words_are_one_command words c d is so) at)
+none_due words m c name o is at missing (of_command d t _ so held comes) = none_read m name missing d t held (subst (λ x. Member (inputs_of x) name) (words_are_one_command words c d is so) at)
 
 pub missing_inputs_are_faults : MissingInputsAreFaults
 missing_inputs_are_faults words old new s (came o due carried) m c name told is at missing = absurd (none_due words m c name o is at missing (subst (λ h. IsDue words h o) told due))

@@ -49,7 +49,7 @@ use Rattle.kp_run_inputs.specs.SourceTables.{by_mode, with_table}
 use Rattle.kp_run_inputs.specs.Actions.{with_actions}
 use Rattle.kp_run_inputs.proofs.Public.{found_numbers_are_actions, found_actions_are_named, as_many_found_as_steps, table_of_source_is_for_trees}
 use Rattle.kp_run.specs.Completeness.{PrintsComplete}
-use Rattle.kp_run.proofs.Public.{complete_text_leaves_none as none_told, complete_is_told, prepared_is_proper, machine_lines_read, due_by}
+use Rattle.kp_run.proofs.Public.{complete_text_leaves_none as none_told, complete_is_told, prepared_is_proper, machine_lines_read, due_by, held_alone, named_merges_held}
 use Rattle.kp_run_prepare.proofs.Public.{problem_of_trees}
 use Rattle.kp_run.specs.Solved.{GoesOn}
 use Rattle.kp_law_runs.specs.Commands.{HasTranslation, TranslationsAreAnswered, CompleteIsTrue, MergesAreListed, ClashesAreAnswered, HasVerdict, ChecksAreAnswered, ChecksAreTrue, HasLift, LiftsAreAnswered, LiftsAreTrue, LiftedLinesStrip, StripsAreAnswered}
@@ -64,7 +64,7 @@ merges_due : (words : List (Vec ℕ Global)) (m : FileMap) (c : Asked) (domain p
     → IsCall verbs.Translate words c → get m c.domain ≡ Some domain → get m c.problem ≡ Some problem → AreHeld (Some m) (if_named (file_of (source_of c))) merges → TranslatesTexts c domain problem merges o → IsDue words (Some m) o
 merges_due words m c domain problem merges o is first second others comes =
     due_by verbs.Translate c (record { domain = domain; problem = problem; merges = merges; plan = []; written = [] }) o is
-    (record { domain = first; problem = second; merges = others; plan = refl; written = refl }) comes
+    (record { domain = held_alone m c.domain domain first; problem = held_alone m c.problem problem second; merges = named_merges_held (Some m) c merges others; plan = refl; written = refl }) comes
 
 translation_due : (words : List (Vec ℕ Global)) (m : FileMap) (c : Asked) (d : Domain Word) (p : Problem Word) (table : TagTable) (ls : List Lit) → IsCall verbs.Translate words c → GoesOn m c.domain c.problem c.implicates d p → HasTranslation m (source_of c) d p table ls → IsDue words (Some m) (translates c (ground_of d p) table ls)
 translation_due words m c d p table ls is g h =
@@ -99,7 +99,7 @@ complete_is_true words old new s ends m c d p table ls held is g h answer =
 pub merges_are_listed : MergesAreListed
 merges_are_listed words old new s ends m c d p table held is g h =
     let o = prints (merges_text (ground_of d p).atoms (merges_of table)) in
-    ends_with words old new s ends m _ held (due_by verbs.Merges c (record { domain = g.domain; problem = g.problem; merges = []; plan = []; written = [] }) o is (record { domain = g.domain_held; problem = g.problem_held; merges = refl; plan = refl; written = refl })
+    ends_with words old new s ends m _ held (due_by verbs.Merges c (record { domain = g.domain; problem = g.problem; merges = []; plan = []; written = [] }) o is (record { domain = held_alone m c.domain g.domain g.domain_held; problem = held_alone m c.problem g.problem g.problem_held; merges = refl; plan = refl; written = refl })
     (later d p g.trees g.prepared (with_table table (by_mode c.mode table h) refl)))
 
 pub clashes_are_answered : ClashesAreAnswered
@@ -109,7 +109,7 @@ clashes_are_answered words old new s ends m c domain problem merges d p at held 
 check_due : (words : List (Vec ℕ Global)) (m : FileMap) (c : Asked) (d : Domain Word) (p : Problem Word) (steps : List PlanStep) (j : Judged) → IsCall verbs.Check words c → GoesOn m c.domain c.problem c.implicates d p → (h : HasVerdict m c.plan d p steps j) → IsDue words (Some m) (tells (ground_of d p) (length steps) j)
 check_due words m c d p steps j is g h =
     let o = tells (ground_of d p) (length steps) j in
-    due_by verbs.Check c (record { domain = g.domain; problem = g.problem; merges = []; plan = h.text; written = [] }) o is (record { domain = g.domain_held; problem = g.problem_held; merges = refl; plan = h.held; written = refl })
+    due_by verbs.Check c (record { domain = g.domain; problem = g.problem; merges = []; plan = h.text; written = [] }) o is (record { domain = held_alone m c.domain g.domain g.domain_held; problem = held_alone m c.problem g.problem g.problem_held; merges = refl; plan = held_alone m c.plan h.text h.held; written = refl })
     (later d p g.trees g.prepared (with_actions steps h.numbers h.has_actions
     (record { judged = j; answers = h.answers; told = ap (λ n. tells (ground_of d p) n j) (sym (as_many_found_as_steps (ground_of d p) steps h.numbers h.has_actions.known)) })))
 
@@ -134,7 +134,7 @@ checks_are_true words old new s ends m c d p steps j held is g h answer =
 
 lift_due : (words : List (Vec ℕ Global)) (m : FileMap) (c : Asked) (d : Domain Word) (p : Problem Word) (table : TagTable) (ns : List ℕ) (o : Outcome) → IsCall verbs.Lift words c → GoesOn m c.domain c.problem c.implicates d p → HasLift m (source_of c) c.plan d p table ns → LiftsActions (ground_of d p) table ns o → IsDue words (Some m) o
 lift_due words m c d p table ns o is g h does =
-    due_by verbs.Lift c (record { domain = g.domain; problem = g.problem; merges = h.merges; plan = h.text; written = [] }) o is (record { domain = g.domain_held; problem = g.problem_held; merges = h.merges_held; plan = h.plan_held; written = refl })
+    due_by verbs.Lift c (record { domain = g.domain; problem = g.problem; merges = h.merges; plan = h.text; written = [] }) o is (record { domain = held_alone m c.domain g.domain g.domain_held; problem = held_alone m c.problem g.problem g.problem_held; merges = named_merges_held (Some m) c h.merges h.merges_held; plan = held_alone m c.plan h.text h.plan_held; written = refl })
     (later d p g.trees g.prepared (with_table table h.has_table (with_task h.fits (with_actions h.steps ns h.has_actions does))))
 
 pub lifts_are_answered : LiftsAreAnswered
@@ -191,4 +191,4 @@ lifted_lines_strip words old new s ends m c d p table ns held is g h is_done =
 
 pub strips_are_answered : StripsAreAnswered
 strips_are_answered words old new s ends m c text steps actions held is first short plan stripped_to =
-    ends_with words old new s ends m _ held (due_by verbs.Strip c (record { domain = []; problem = []; merges = []; plan = []; written = text }) (prints (plan_text actions)) is (record { domain = refl; problem = refl; merges = refl; plan = refl; written = first }) (strips steps actions short plan stripped_to refl))
+    ends_with words old new s ends m _ held (due_by verbs.Strip c (record { domain = []; problem = []; merges = []; plan = []; written = text }) (prints (plan_text actions)) is (record { domain = refl; problem = refl; merges = refl; plan = refl; written = held_alone m c.written text first }) (strips steps actions short plan stripped_to refl))

@@ -1,15 +1,12 @@
 -- Words have at most one outcome on what is held.
-use Rattle.std.proofs.Common.{◌≡◌, ℕ, Bool, true, false, List, [], ◌∷◌, Some, map, codes, refl, sym, ap, ◌∙◌, subst}
-use Rattle.std.proofs.lemmas.Option.{same_Some}
+use Rattle.std.proofs.Common.{◌≡◌, ℕ, List, [], ◌∷◌, Option, Some, None, map, codes, refl, sym, ap, ◌∙◌, subst}
 use Rattle.std.specs.FinMap.{get}
 use Rattle.kp_outside.specs.Outside.{FileMap}
 use Rattle.kp_words.specs.Asked.{Asked}
-use Rattle.kp_words_options.specs.Words.{has_text}
 use Rattle.kp_words.specs.Forms.{form}
-use Rattle.kp_words.specs.Command.{merges_by}
+use Rattle.kp_words.specs.Command.{file_among, if_named}
 use Rattle.kp_words.proofs.Public.{words_are_one_command}
-use Rattle.kp_words.specs.declared.verb.Verb.{Verb}
-use Rattle.kp_run.specs.Contents.{Contents, HoldsIf, AreContents}
+use Rattle.kp_run.specs.Contents.{Contents, IsContent, AreContentsUnder, AreContents}
 use Rattle.kp_run.specs.Outcomes.{usage, of_command, ComesBy}
 use Rattle.kp_law_runs.specs.Laws.{HasOneOutcome}
 use Rattle.kp_law_runs.proofs.ByVerb.{outcome_once}
@@ -28,20 +25,20 @@ held_once m names ts us h k = injective ts us (sym h ∙ k)
         cc (first, injective ts us rest)
 
 -- files hold one content each
-holds_once : (b : Bool) (m : FileMap) (name x y : List ℕ) → HoldsIf b (Some m) name x → HoldsIf b (Some m) name y → x ≡ y
-holds_once true m name x y a b = same_Some x y (sym a ∙ b)
-holds_once false m name x y a b = a ∙ sym b
+one_content : (m : FileMap) (name : Option (List ℕ)) (x y : List ℕ) → IsContent (Some m) name x → IsContent (Some m) name y → x ≡ y
+one_content m None x y a b = a ∙ sym b
+one_content m (Some name) x y a b = let same : x ∷ [] ≡ y ∷ [] = held_once m (name ∷ []) (x ∷ []) (y ∷ []) a b in cc
 
 abbrev making : List ℕ → List ℕ → List (List ℕ) → List ℕ → List ℕ → Contents
 making domain problem merges plan written = record { domain = domain; problem = problem; merges = merges; plan = plan; written = written }
 
-contents_once : (m : FileMap) (v : Verb) (c : Asked) (t u : Contents) → AreContents (Some m) v c t → AreContents (Some m) v c u → t ≡ u
-contents_once m v c t u a b =
-    let e0 = holds_once (has_text (form v).places (codes "D")) m c.domain t.domain u.domain a.domain b.domain in
-    let e1 = holds_once (has_text (form v).places (codes "P")) m c.problem t.problem u.problem a.problem b.problem in
-    let e2 = held_once m (merges_by v c) t.merges u.merges a.merges b.merges in
-    let e3 = holds_once (has_text (form v).places (codes "PLAN")) m c.plan t.plan u.plan a.plan b.plan in
-    let e4 = holds_once (has_text (form v).places (codes "T")) m c.written t.written u.written a.written b.written in
+contents_once : (m : FileMap) (names : List (List ℕ)) (c : Asked) (t u : Contents) → AreContentsUnder names (Some m) c t → AreContentsUnder names (Some m) c u → t ≡ u
+contents_once m names c t u a b =
+    let e0 = one_content m (file_among names c (codes "D")) t.domain u.domain a.domain b.domain in
+    let e1 = one_content m (file_among names c (codes "P")) t.problem u.problem a.problem b.problem in
+    let e2 = held_once m (if_named (file_among names c (codes "merges"))) t.merges u.merges a.merges b.merges in
+    let e3 = one_content m (file_among names c (codes "PLAN")) t.plan u.plan a.plan b.plan in
+    let e4 = one_content m (file_among names c (codes "T")) t.written u.written a.written b.written in
     alike t u e0 e1 e2 e3 e4
   where
     alike : (t u : Contents) → t.domain ≡ u.domain → t.problem ≡ u.problem → t.merges ≡ u.merges → t.plan ≡ u.plan → t.written ≡ u.written → t ≡ u
@@ -56,6 +53,6 @@ one_outcome words held _ u (usage a) (of_command d us _ k m b) = absurd (a d k)
 one_outcome words held o _ (of_command c ts _ h l a) (usage b) = absurd (b c h)
 one_outcome words held o u (of_command c t _ h l a) (of_command d s _ k m b) =
     let same = words_are_one_command words c d h k in
-    let here = subst (λ (x : Asked). AreContents (Some held) x.verb x t) same l in
+    let here = subst (λ (x : Asked). AreContents (Some held) x t) same l in
     let made = subst (λ (x : Asked). ComesBy x.verb x t o) same a in
-    outcome_once d.verb d s o u (subst (λ z. ComesBy d.verb d z o) (contents_once held d.verb d t s here m) made) b
+    outcome_once d.verb d s o u (subst (λ z. ComesBy d.verb d z o) (contents_once held (form d.verb).reads d t s here m) made) b

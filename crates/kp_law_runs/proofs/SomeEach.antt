@@ -34,6 +34,7 @@ use Rattle.kp_plans.proofs.Public.{plans_always_one}
 use Rattle.kp_run_messages.specs.Refusals.{nothing}
 use Rattle.kp_words.specs.Asked.{of_mode, Asked, source_of}
 use Rattle.kp_words.specs.Command.{file_of, if_named}
+use Rattle.kp_words.proofs.Public.{file_of_merges_is}
 use Rattle.kp_run_prepare.specs.Texts.{HaveTrees}
 use Rattle.kp_run_prepare.specs.Refusing.{refuses, named_in}
 use Rattle.kp_run_prepare.specs.Prepared.{usual, IsPrepared}
@@ -66,6 +67,10 @@ fits_or_refused t = elim (cases_lt 262144 (length t.facts)) [
   ]
 ]
 
+-- as many of merges as the command names, by its source
+by_source : (c : Asked) (merges : List (List ℕ)) → length merges ≡ length (if_named c.merges) → length merges ≡ length (if_named (file_of (source_of c)))
+by_source c merges many = many ∙ ap (λ (o : Option (List ℕ)). length (if_named o)) (sym (file_of_merges_is c.mode c.merges))
+
 module _ (limit : ℕ) (d : Domain Word) (p : Problem Word) (x y : List ℕ) (trees : HaveTrees x y d p) (ready : IsPrepared limit d p) where
   own : IsOfItsAtoms (ground_of d p)
   own = usual_ground_is_of_its_atoms (numbered_problem d p) (ground_of d p) ready.started.small
@@ -83,8 +88,8 @@ module _ (limit : ℕ) (d : Domain Word) (p : Problem Word) (x y : List ℕ) (tr
         (translates c (ground_of d p) table ls.0, done ls.0 fits ls.1 refl)
   ]
 
-  pub of_translate : (c : Asked) (merges : List (List ℕ)) → length merges ≡ length (if_named (file_of (source_of c))) → (o : Outcome) × TranslatesTrees c merges d p o
-  of_translate c merges many = by_table_some_outcome (ground_of d p) (initial_of d p) (source_of c) merges (TranslatesGround c (ground_of d p) (initial_of d p)) proper many (λ t has. of_table c t)
+  pub of_translate : (c : Asked) (merges : List (List ℕ)) → length merges ≡ length (if_named c.merges) → (o : Outcome) × TranslatesTrees c merges d p o
+  of_translate c merges many = by_table_some_outcome (ground_of d p) (initial_of d p) (source_of c) merges (TranslatesGround c (ground_of d p) (initial_of d p)) proper (by_source c merges many) (λ t has. of_table c t)
 
   pub of_listed : (mode : Mode) → (o : Outcome) × MergesTrees mode d p o
   of_listed mode = by_table_some_outcome (ground_of d p) (initial_of d p) (of_mode mode) [] (MergesGround (ground_of d p)) proper refl (λ t has. (prints (merges_text (ground_of d p).atoms (merges_of t)), refl))
@@ -114,8 +119,8 @@ module _ (limit : ℕ) (d : Domain Word) (p : Problem Word) (x y : List ℕ) (tr
         (o.0, with_task fits o.1)
   ]
 
-  pub of_lift : (c : Asked) (merges : List (List ℕ)) (plan : List ℕ) → length merges ≡ length (if_named (file_of (source_of c))) → (o : Outcome) × LiftsTrees c merges plan d p o
-  of_lift c merges plan many = by_table_some_outcome (ground_of d p) (initial_of d p) (source_of c) merges (LiftsPlan (ground_of d p) plan) proper many (λ t has. of_plan_lifted plan t)
+  pub of_lift : (c : Asked) (merges : List (List ℕ)) (plan : List ℕ) → length merges ≡ length (if_named c.merges) → (o : Outcome) × LiftsTrees c merges plan d p o
+  of_lift c merges plan many = by_table_some_outcome (ground_of d p) (initial_of d p) (source_of c) merges (LiftsPlan (ground_of d p) plan) proper (by_source c merges many) (λ t has. of_plan_lifted plan t)
 
   -- ---- a search
 
@@ -127,8 +132,8 @@ module _ (limit : ℕ) (d : Domain Word) (p : Problem Word) (x y : List ℕ) (tr
         some_search c.classical c.budget (ground_of d p) (initial_of d p) table proper fits (task_of_trees_fits d p table ready.started.small fits (tables_can_be_written x y (problem_of_trees x y d p trees) table for))
   ]
 
-  pub of_solve : (c : Asked) (merges : List (List ℕ)) → length merges ≡ length (if_named (file_of (source_of c))) → (o : Outcome) × SolvesTrees c merges d p o
-  of_solve c merges many = by_table_some_outcome (ground_of d p) (initial_of d p) (source_of c) merges (SolvesGround c.classical c.budget (ground_of d p) (initial_of d p)) proper many (λ t has. of_search c merges t has)
+  pub of_solve : (c : Asked) (merges : List (List ℕ)) → length merges ≡ length (if_named c.merges) → (o : Outcome) × SolvesTrees c merges d p o
+  of_solve c merges many = by_table_some_outcome (ground_of d p) (initial_of d p) (source_of c) merges (SolvesGround c.classical c.budget (ground_of d p) (initial_of d p)) proper (by_source c merges many) (λ t has. of_search c merges t has)
 
   -- ---- a width
 

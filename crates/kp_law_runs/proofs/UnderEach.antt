@@ -1,5 +1,5 @@
 -- Each command puts files under its own output names.
-use Rattle.std.proofs.Common.{◌≡◌, ◌≢◌, ℕ, List, [], ◌∷◌, Option, Some, None, map, length, inl, inr, refl, sym, ap, ◌∙◌, subst}
+use Rattle.std.proofs.Common.{◌≡◌, ◌≢◌, ℕ, List, [], ◌∷◌, Option, Some, None, map, filter_map, length, inl, inr, refl, sym, ap, ◌∙◌, subst}
 use Rattle.kp_base.specs.Lists.{Member}
 use Rattle.kp_tree_grammar.specs.declared.tree.Word.{Word}
 use Rattle.kp_tree_grammar.specs.Trees.{Domain, Problem}
@@ -7,7 +7,9 @@ use Rattle.kp_run_outcome.specs.declared.outcome.FilePut.{FilePut}
 use Rattle.kp_run_outcome.specs.declared.outcome.Outcome.{Outcome}
 use Rattle.kp_run_outcome.specs.declared.status.Status.TheVariants as status
 use Rattle.kp_words.specs.Asked.{Source, Asked}
-use Rattle.kp_words.specs.Command.{named, if_named, outputs_by}
+use Rattle.kp_words.specs.Forms.{form}
+use Rattle.kp_words.specs.Command.{if_named, file_under}
+use Rattle.kp_words.specs.declared.verb.Verb.{Verb}
 use Rattle.kp_width.specs.declared.report.WidthReport.{WidthReport}
 use Rattle.kp_width.specs.declared.report.WidthReport.TheVariants.{Within, Over}
 use Rattle.kp_run_prepare.specs.Refusing.{refuses, named_in}
@@ -34,6 +36,10 @@ use Rattle.kp_run_solve.specs.Solving.{solves, TellsSolved, SolvesGround, over a
 use Rattle.kp_run_bench.specs.Bench.{TellsBench, BenchesGround, over as too_large_to_bench, searched as by_bench}
 use Rattle.kp_base.specs.declared.lit.Lit.{Lit}
 use Rattle.kp_words.specs.declared.verb.Verb.TheVariants as verbs
+
+-- the names of the files that a command of a verb writes
+abbrev pub outputs_by : Verb → Asked → List (List ℕ)
+outputs_by verb c = filter_map (file_under c) (form verb).writes
 
 -- what an outcome puts is under these names
 pub record PutsUnder (outputs : List (List ℕ)) (o : Outcome) : Type 0 where

@@ -36,14 +36,14 @@ use Rattle.kp_run.specs.Width.{tells_width, WidthTexts, no_report, with_report}
 use Rattle.kp_run.specs.Outcomes.{IsDue}
 use Rattle.kp_run.specs.Ends.{Ends}
 use Rattle.kp_run.specs.Solved.{GoesOn}
-use Rattle.kp_run.proofs.Public.{due_makes, IsCarriedOut, answer_is_carried_out, IsNoRefusal, not_refused, prepared_is_proper, due_by}
+use Rattle.kp_run.proofs.Public.{due_makes, IsCarriedOut, answer_is_carried_out, IsNoRefusal, not_refused, prepared_is_proper, due_by, content_held, held_alone}
 use Rattle.kp_law_runs.specs.Width.{WidthsAreAnswered, AreRight, IsTargeted, IsWidthTold, IsTooWide, WidthsAreTrue}
 use Rattle.kp_law_runs.proofs.Following.{ends_with}
 
 width_due : (words : List (Vec ℕ Global)) (m : FileMap) (c : Asked) (d : Domain Word) (p : Problem Word) (report : WidthReport) → IsCall verbs.Width words c → GoesOn m c.domain c.problem c.implicates d p → IsReport usual c.bound (ground_of d p) (initial_of d p) report → IsDue words (Some m) (tells_width (ground_of d p) c.bound report)
 width_due words m c d p report is g reports =
     let o = tells_width (ground_of d p) c.bound report in
-    due_by verbs.Width c (record { domain = g.domain; problem = g.problem; merges = []; plan = []; written = [] }) o is (record { domain = g.domain_held; problem = g.problem_held; merges = refl; plan = refl; written = refl }) (later d p g.trees g.prepared (with_report report reports refl))
+    due_by verbs.Width c (record { domain = g.domain; problem = g.problem; merges = []; plan = []; written = [] }) o is (record { domain = held_alone m c.domain g.domain g.domain_held; problem = held_alone m c.problem g.problem g.problem_held; merges = refl; plan = refl; written = refl }) (later d p g.trees g.prepared (with_report report reports refl))
 
 pub widths_are_answered : WidthsAreAnswered
 widths_are_answered words old new s ends m c d p report held is g reports = ends_with words old new s ends m _ held (width_due words m c d p report is g reports)
@@ -93,7 +93,7 @@ of_texts m c domain problem first second o answers (later d p trees ready (with_
 has_report : (words : List (Vec ℕ Global)) (m : FileMap) (c : Asked) (o : Outcome) → IsCall verbs.Width words c → IsDue words (Some m) o → IsNoRefusal o → HasReport m c o
 has_report words m c o is due answers =
     let it = due_makes words (Some m) verbs.Width c o is due in
-    of_texts m c it.contents.domain it.contents.problem it.are.domain it.are.problem o answers it.makes
+    of_texts m c it.contents.domain it.contents.problem (content_held m c.domain _ it.are.domain) (content_held m c.problem _ it.are.problem) o answers it.makes
 
 module _ (m : FileMap) (c : Asked) (o : Outcome) (x : HasReport m c o) (old new : Outside) (s : Status) (a : IsCarriedOut o old new s) where
   abbrev ground : Ground

@@ -15,6 +15,7 @@ use Rattle.kp_run_outcome.specs.declared.status.Status.{Status}
 use Rattle.kp_run_outcome.specs.declared.status.Status.TheVariants as status
 use Rattle.kp_run_outcome.specs.Ends.{Outside}
 use Rattle.kp_words.specs.Asked.{of_mode, Asked}
+use Rattle.kp_words.specs.Options.{usual_limit}
 use Rattle.kp_words.specs.Command.{IsCall}
 use Rattle.kp_words.specs.declared.verb.Verb.TheVariants as verbs
 use Rattle.kp_run_prepare.specs.Texts.{HaveTrees}
@@ -22,7 +23,7 @@ use Rattle.kp_run_prepare.specs.Prepared.{usual, IsPrepared}
 use Rattle.kp_run_inputs.specs.SourceTables.{HasTable}
 use Rattle.kp_run_solve.specs.Solving.{Finds, AreNamed}
 use Rattle.kp_run_bench.specs.Summary.{summary_text}
-use Rattle.kp_run_bench.specs.Bench.{texts_of, usual_implicates, Benches}
+use Rattle.kp_run_bench.specs.Bench.{texts_of, Benches}
 use Rattle.kp_run.specs.Completeness.{PrintsComplete}
 use Rattle.kp_run.specs.Solved.{Tells, Posed, its_ground, its_formula, its_task, IsWrittenPlan}
 use Rattle.kp_law_runs.specs.Follows.{OfRuns, EndsWith}
@@ -33,7 +34,7 @@ use Rattle.kp_law_runs.specs.Follows.{OfRuns, EndsWith}
 pub record IsPosedBench (c : Asked) : Type 0 where
   pub about : Posed
   pub trees : HaveTrees (texts_of c).domain (texts_of c).problem about.domain_tree about.problem_tree
-  pub prepared : IsPrepared usual_implicates about.domain_tree about.problem_tree
+  pub prepared : IsPrepared usual_limit about.domain_tree about.problem_tree
   pub has_table : HasTable (its_ground about) (its_formula about) (of_mode c.mode) [] about.table
   pub fits : FitsLimits (its_task about) usual
 

@@ -69,7 +69,7 @@ CompleteIsTrue = OfRuns (λ words old new s. (m : FileMap) (c : Asked) (d : Doma
 
 -- under `--mode models`, and under `--mode auto`, a translation that ends with Done told `complete` as its last line
 abbrev pub SomeModesTellComplete : Type 0
-SomeModesTellComplete = OfRuns (λ words old new s. (c : Asked) (mode : Mode) → IsCall verbs.Translate words c → (source_of c) ≡ of_mode mode → CoversEach mode → s ≡ status.Done → (text : List ℕ) × Tells old new text × PrintsComplete text)
+SomeModesTellComplete = OfRuns (λ words old new s. (c : Asked) (mode : Mode) → IsCall verbs.Translate words c → source_of c ≡ of_mode mode → CoversEach mode → s ≡ status.Done → (text : List ℕ) × Tells old new text × PrintsComplete text)
 
 -- merges of such files in a mode: the run ends with the merges of its table
 abbrev pub MergesAreListed : Type 0

@@ -1,5 +1,5 @@
 -- Words have an outcome on what is held.
-use Rattle.std.specs.Prelude.{◌≡◌, ◌↔◌, ℕ, List, length, map, Some, Vec}
+use Rattle.std.specs.Prelude.{◌≡◌, ◌↔◌, ℕ, List, length, map, Some, Vec, codes}
 use Rattle.std.specs.declared.alloc.Global.{Global}
 use Rattle.kp_names_semantics.specs.Initial.{HasInitialState}
 use Rattle.kp_names_semantics.specs.Plans.{HasProblem, IsPlan}
@@ -12,18 +12,19 @@ use Rattle.kp_check.specs.Judging.{IsVerdict}
 use Rattle.kp_law_translation.specs.OfTrees.{ground_of, initial_of}
 use Rattle.kp_outside.specs.Outside.{FileMap}
 use Rattle.kp_run_outcome.specs.declared.outcome.Outcome.{Outcome}
-use Rattle.kp_words.specs.Command.{IsCommand, merges_by}
+use Rattle.kp_words.specs.Forms.{form}
+use Rattle.kp_words.specs.Command.{IsCommand, file_among, if_named}
 use Rattle.kp_words.specs.Asked.{Asked}
 use Rattle.kp_run.specs.Contents.{Contents, AreContents}
 use Rattle.kp_run.specs.Outcomes.{ComesTo, IsDue}
 
 -- a command comes to an outcome on any contents, with as many of merges as it reads
 abbrev pub CommandsHaveAnOutcome : Type 0
-CommandsHaveAnOutcome = (c : Asked) (t : Contents) → length t.merges ≡ length (merges_by c.verb c) → (o : Outcome) × ComesTo c t o
+CommandsHaveAnOutcome = (c : Asked) (t : Contents) → length t.merges ≡ length (if_named (file_among (form c.verb).reads c (codes "merges"))) → (o : Outcome) × ComesTo c t o
 
 -- words have an outcome on what is held, if, where they are a command, its input files are held
 abbrev pub HasSomeOutcome : Type 0
-HasSomeOutcome = (words : List (Vec ℕ Global)) (held : FileMap) → ((c : Asked) → IsCommand words c → (t : Contents) × AreContents (Some held) c.verb c t) → (o : Outcome) × IsDue words (Some held) o
+HasSomeOutcome = (words : List (Vec ℕ Global)) (held : FileMap) → ((c : Asked) → IsCommand words c → (t : Contents) × AreContents (Some held) c t) → (o : Outcome) × IsDue words (Some held) o
 
 -- words have at most one outcome on what is held
 abbrev pub HasOneOutcome : Type 0

@@ -50,7 +50,7 @@ pub record GivenHaveNoPlan (m : FileMap) (c : Asked) (old new : Outside) : Type 
 
 -- under `--mode models`, and under `--mode auto`, they have none where it ends with Negative
 abbrev pub NoPlanInSomeModes : Type 0
-NoPlanInSomeModes = OfRuns (λ words old new s. (m : FileMap) (c : Asked) (mode : Mode) → old.held ≡ Some m → IsCall verbs.Solve words c → (source_of c) ≡ of_mode mode → CoversEach mode → s ≡ status.Negative → GivenHaveNoPlan m c old new)
+NoPlanInSomeModes = OfRuns (λ words old new s. (m : FileMap) (c : Asked) (mode : Mode) → old.held ≡ Some m → IsCall verbs.Solve words c → source_of c ≡ of_mode mode → CoversEach mode → s ≡ status.Negative → GivenHaveNoPlan m c old new)
 
 -- where it ends with Spent, there are more states than the budget says
 abbrev pub SpentIsTrue : Type 0

@@ -11,6 +11,7 @@ use Rattle.kp_check.specs.declared.answer.Judged.TheVariants.{Yes, No}
 use Rattle.kp_run_outcome.specs.declared.outcome.Outcome.{Outcome}
 use Rattle.kp_run_outcome.specs.Ends.{IsAnswer}
 use Rattle.kp_words.specs.declared.verb.Verb.{Verb}
+use Rattle.kp_words.specs.Options.{usual_limit}
 use Rattle.kp_words.specs.declared.verb.Verb.TheVariants as verbs
 use Rattle.kp_words.specs.Asked.{Source, of_mode, Asked, source_of}
 use Rattle.kp_run_prepare.specs.Prepared.{by_texts, by_trees, Comes, early, later}
@@ -31,7 +32,7 @@ use Rattle.kp_search.specs.declared.found.Found.{Found}
 use Rattle.kp_search.specs.declared.found.Found.TheVariants.{Plan, NoPlan, Spent}
 use Rattle.kp_run_classical.specs.Classical.{ComesClassical, by_texts as no_texts, by_trees as no_trees, early as at_once, later as goes_on}
 use Rattle.kp_run_solve.specs.Solving.{TellsSolved, SolvesGround, over as too_large, searched as by_search, TellsClassical}
-use Rattle.kp_run_bench.specs.Bench.{texts_of, usual_implicates, TellsBench, BenchesGround, over as too_heavy, searched as by_found, BenchesTrees, Benches}
+use Rattle.kp_run_bench.specs.Bench.{texts_of, TellsBench, BenchesGround, over as too_heavy, searched as by_found, BenchesTrees, Benches}
 use Rattle.kp_run.specs.Laws.{OutcomesAreAnswers}
 
 -- an outcome that is known
@@ -110,7 +111,7 @@ benched_answer c g i table o (too_heavy r a e) = known o _ e tt
 benched_answer c g i table o (by_found found a finds t) = summary_answer c g i table o found t
 
 bench_answer : (c : Asked) (o : Outcome) → Benches c o → IsAnswer o.status
-bench_answer c o a = comes_answer usual_implicates (texts_of c).domain (texts_of c).problem (BenchesTrees c) o (λ d p. table_answer (ground_of d p) (initial_of d p) (of_mode c.mode) [] _ o (λ table. benched_answer c (ground_of d p) (initial_of d p) table o)) a
+bench_answer c o a = comes_answer usual_limit (texts_of c).domain (texts_of c).problem (BenchesTrees c) o (λ d p. table_answer (ground_of d p) (initial_of d p) (of_mode c.mode) [] _ o (λ table. benched_answer c (ground_of d p) (initial_of d p) table o)) a
 
 pub outcomes_are_answers : OutcomesAreAnswers
 outcomes_are_answers words held _ (usage a) = tt

@@ -50,6 +50,7 @@ use Rattle.kp_run.specs.Ends.{Ends, came, read_failed, no_memory}
 use Rattle.kp_run.specs.Completeness as complete
 use Rattle.kp_run.specs.Completeness.{PrintsComplete, RanComplete, AreSameSource, one_mode, one_text, IsOfTheSame, HoldsPlan, LosesNoPlan, StaysSolvable}
 use Rattle.kp_run.proofs.CompleteText.{none_uncovered}
+use Rattle.kp_run.proofs.Reading.{content_held, merges_held}
 use Rattle.kp_run.proofs.Comes.{due_makes}
 use Rattle.kp_run.proofs.PlanLines.{steps_read}
 use Rattle.kp_run.proofs.Soundness.{IsDone, AreBoth, both_held, all_done, is_table, first_put, second_put}
@@ -224,10 +225,10 @@ module _ (t : Asked) (before after : FileMap) (text : List ℕ) (x : DidTranslat
     of_due words o is due =
         let it = due_makes words (Some now) verbs.Lift c o is due in
         let its = it.contents in
-        let first_held : get now c.domain ≡ Some its.domain = it.are.domain in
-        let second_held : get now c.problem ≡ Some its.problem = it.are.problem in
-        let others_held : map (get now) (if_named (file_of (source_of c))) ≡ map Some its.merges = it.are.merges in
-        let plan_is_held : get now c.plan ≡ Some its.plan = it.are.plan in
+        let first_held : get now c.domain ≡ Some its.domain = content_held now c.domain its.domain it.are.domain in
+        let second_held : get now c.problem ≡ Some its.problem = content_held now c.problem its.problem it.are.problem in
+        let others_held : map (get now) (if_named (file_of (source_of c))) ≡ map Some its.merges = merges_held (Some now) c its.merges it.are.merges in
+        let plan_is_held : get now c.plan ≡ Some its.plan = content_held now c.plan its.plan it.are.plan in
         let first = same_Some its.domain x.both.domain (sym first_held ∙ domain_now) in
         let second = same_Some its.problem x.both.problem (sym second_held ∙ problem_now) in
         let others = some_alike its.merges x.both.merges (sym others_held ∙ merges_now) in

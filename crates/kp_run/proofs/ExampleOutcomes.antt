@@ -46,11 +46,12 @@ use Rattle.kp_run_outcome.specs.declared.outcome.Outcome.{Outcome}
 use Rattle.kp_run_outcome.specs.declared.status.Status.TheVariants as status
 use Rattle.kp_run_outcome.specs.Ends.{Outside, whole}
 use Rattle.kp_words_options.specs.Words.{nothing, a_word, apart as apart_words, word as said_word, option as said_option}
-use Rattle.kp_words.specs.Asked.{Asked, source_of}
+use Rattle.kp_words.specs.Asked.{Asked}
 use Rattle.kp_words.specs.declared.verb.Verb.TheVariants as verbs
-use Rattle.kp_words.specs.Command.{IsCall, file_of}
-use Rattle.kp_words.proofs.Public.{no_words_are_no_command, example_two_apart}
+use Rattle.kp_words.specs.Command.{IsCall}
+use Rattle.kp_words.proofs.Public.{no_words_are_no_command, example_two_apart, call_by_words, files_by_computing, usual_numbers, nothing_generated}
 use Rattle.kp_words.specs.Owned.{bare}
+use Rattle.kp_run.proofs.Reading.{content_held, held_alone}
 use Rattle.kp_run.proofs.Comes.{due_by, due_makes}
 use Rattle.kp_run_prepare.specs.Texts.{HaveTrees}
 use Rattle.kp_run_prepare.specs.Prepared.{usual, IsStarted, later}
@@ -86,25 +87,9 @@ apart x y h e = false≢true (sym h ∙ (sym (ap (same x) e) ∙ same-refl x))
 
 is_command : IsCall verbs.Translate words command
 unfolding encode
-is_command = record {
-  is_command = record {
-    utf8 = ((codes "translate", (refl, refl)), ((codes "d", (refl, refl)), ((codes "p", (refl, refl)), ((codes "od", (refl, refl)), ((codes "op", (refl, refl)), ((codes "--mode", (refl, refl)), ((codes "k0", (refl, refl)), tt)))))));
-    are_words = record {
-      rest = codes "d" ∷ codes "p" ∷ codes "od" ∷ codes "op" ∷ codes "--mode" ∷ codes "k0" ∷ [];
-      are = refl;
-      behind = record {
-        places = codes "d" ∷ codes "p" ∷ codes "od" ∷ codes "op" ∷ [];
-        values = Some (codes "k0") ∷ None ∷ None ∷ [];
-        line = record { said = said_word (codes "d") ∷ said_word (codes "p") ∷ said_word (codes "od") ∷ said_word (codes "op") ∷ said_option (codes "mode") (codes "k0") ∷ []; says = a_word _ _ _ refl (a_word _ _ _ refl (a_word _ _ _ refl (a_word _ _ _ refl (apart_words (codes "mode") (codes "k0") _ _ refl refl (nothing))))); places_are = refl; known = refl; once = refl; values_are = refl };
-        are_of = record {
-          as_many = refl;
-          are_asked = record { domain = refl; problem = refl; plan = refl; written = refl; domain_out = refl; problem_out = refl; outputs_differ = example_two_apart (codes "od") (codes "op") refl; family = refl; size = refl; mode = refl; merges = refl; one_source = tt; implicates = refl; budget = refl; bound = refl; classical = refl };
-        };
-      };
-    };
-  };
-  of_verb = refl;
-}
+is_command =
+    call_by_words verbs.Translate _ _ _ (said_word (codes "d") ∷ said_word (codes "p") ∷ said_word (codes "od") ∷ said_word (codes "op") ∷ said_option (codes "mode") (codes "k0") ∷ []) ((codes "translate", (refl, refl)), ((codes "d", (refl, refl)), ((codes "p", (refl, refl)), ((codes "od", (refl, refl)), ((codes "op", (refl, refl)), ((codes "--mode", (refl, refl)), ((codes "k0", (refl, refl)), tt))))))) refl (a_word _ _ _ refl (a_word _ _ _ refl (a_word _ _ _ refl (a_word _ _ _ refl (apart_words (codes "mode") (codes "k0") _ _ refl refl (nothing)))))) refl refl refl refl
+    (record { files = files_by_computing refl (example_two_apart (codes "od") (codes "op") refl); source = record { mode = refl; merges = refl; one_source = tt }; numbers = usual_numbers refl; generated = nothing_generated refl })
 
 -- with a limit of one prime implicate
 abbrev pub with_limit : List (Vec ℕ Global)
@@ -117,25 +102,9 @@ limited = record (bare verbs.Translate) { domain = codes "d"; problem = codes "p
 
 pub is_limited : IsCall verbs.Translate with_limit limited
 unfolding encode digits
-is_limited = record {
-  is_command = record {
-    utf8 = ((codes "translate", (refl, refl)), ((codes "d", (refl, refl)), ((codes "p", (refl, refl)), ((codes "od", (refl, refl)), ((codes "op", (refl, refl)), ((codes "--mode", (refl, refl)), ((codes "k0", (refl, refl)), ((codes "--implicates", (refl, refl)), ((codes "1", (refl, refl)), tt)))))))));
-    are_words = record {
-      rest = codes "d" ∷ codes "p" ∷ codes "od" ∷ codes "op" ∷ codes "--mode" ∷ codes "k0" ∷ codes "--implicates" ∷ codes "1" ∷ [];
-      are = refl;
-      behind = record {
-        places = codes "d" ∷ codes "p" ∷ codes "od" ∷ codes "op" ∷ [];
-        values = Some (codes "k0") ∷ None ∷ Some (codes "1") ∷ [];
-        line = record { said = said_word (codes "d") ∷ said_word (codes "p") ∷ said_word (codes "od") ∷ said_word (codes "op") ∷ said_option (codes "mode") (codes "k0") ∷ said_option (codes "implicates") (codes "1") ∷ []; says = a_word _ _ _ refl (a_word _ _ _ refl (a_word _ _ _ refl (a_word _ _ _ refl (apart_words (codes "mode") (codes "k0") _ _ refl refl (apart_words (codes "implicates") (codes "1") _ _ refl refl (nothing)))))); places_are = refl; known = refl; once = refl; values_are = refl };
-        are_of = record {
-          as_many = refl;
-          are_asked = record { domain = refl; problem = refl; plan = refl; written = refl; domain_out = refl; problem_out = refl; outputs_differ = example_two_apart (codes "od") (codes "op") refl; family = refl; size = refl; mode = refl; merges = refl; one_source = tt; implicates = (record { at_least = omega arith; at_most = omega arith }, refl); budget = refl; bound = refl; classical = refl };
-        };
-      };
-    };
-  };
-  of_verb = refl;
-}
+is_limited =
+    call_by_words verbs.Translate _ _ _ (said_word (codes "d") ∷ said_word (codes "p") ∷ said_word (codes "od") ∷ said_word (codes "op") ∷ said_option (codes "mode") (codes "k0") ∷ said_option (codes "implicates") (codes "1") ∷ []) ((codes "translate", (refl, refl)), ((codes "d", (refl, refl)), ((codes "p", (refl, refl)), ((codes "od", (refl, refl)), ((codes "op", (refl, refl)), ((codes "--mode", (refl, refl)), ((codes "k0", (refl, refl)), ((codes "--implicates", (refl, refl)), ((codes "1", (refl, refl)), tt))))))))) refl (a_word _ _ _ refl (a_word _ _ _ refl (a_word _ _ _ refl (a_word _ _ _ refl (apart_words (codes "mode") (codes "k0") _ _ refl refl (apart_words (codes "implicates") (codes "1") _ _ refl refl (nothing))))))) refl refl refl refl
+    (record { files = files_by_computing refl (example_two_apart (codes "od") (codes "op") refl); source = record { mode = refl; merges = refl; one_source = tt }; numbers = record { implicates = (record { at_least = omega arith; at_most = omega arith }, refl); budget = refl; bound = refl }; generated = nothing_generated refl })
 
 -- ---- what is held
 
@@ -150,10 +119,10 @@ problem_held : (domain problem : List ℕ) → get (holding domain problem) (cod
 problem_held domain problem = at_last (insert empty (codes "d") domain) (codes "p") problem
 
 -- what the two texts are translated to is due
-pub due_with : (ws : List (Vec ℕ Global)) (c : Asked) → IsCall verbs.Translate ws c → c.domain ≡ codes "d" → c.problem ≡ codes "p" → file_of (source_of c) ≡ None → (domain problem : List ℕ) (o : Outcome) → TranslatesTexts c domain problem [] o → IsDue ws (Some (holding domain problem)) o
+pub due_with : (ws : List (Vec ℕ Global)) (c : Asked) → IsCall verbs.Translate ws c → c.domain ≡ codes "d" → c.problem ≡ codes "p" → c.merges ≡ None → (domain problem : List ℕ) (o : Outcome) → TranslatesTexts c domain problem [] o → IsDue ws (Some (holding domain problem)) o
 due_with ws c is first second alone domain problem o h =
     due_by verbs.Translate c (record { domain = domain; problem = problem; merges = []; plan = []; written = [] }) o is
-    (record { domain = ap (get (holding domain problem)) first ∙ domain_held domain problem; problem = ap (get (holding domain problem)) second ∙ problem_held domain problem; merges = rw alone refl; plan = refl; written = refl }) h
+    (record { domain = held_alone (holding domain problem) c.domain domain (ap (get (holding domain problem)) first ∙ domain_held domain problem); problem = held_alone (holding domain problem) c.problem problem (ap (get (holding domain problem)) second ∙ problem_held domain problem); merges = rw alone refl; plan = refl; written = refl }) h
 
 pub on_files : (domain problem : List ℕ) (o : Outcome) → TranslatesTexts command domain problem [] o → IsDue words (Some (holding domain problem)) o
 on_files = due_with words command is_command refl refl refl
@@ -294,5 +263,4 @@ not_held name content held = absurd (let e = get-empty {X = List ℕ} (slice_cmp
 nothing_is_due : (o : Outcome) → IsDue words (Some no_files) o → ⊥
 nothing_is_due o due =
     let it = due_makes words (Some no_files) verbs.Translate command o is_command due in
-    let held : get no_files command.domain ≡ Some it.contents.domain = it.are.domain in
-    not_held command.domain it.contents.domain held
+    not_held command.domain it.contents.domain (content_held no_files command.domain it.contents.domain it.are.domain)

@@ -8,12 +8,12 @@ pub mod Translations
 pub mod Checks
 pub mod Widths
 pub mod Lifts
+pub mod Reading
 pub mod Comes
 pub mod Soundness
 pub mod CompleteText
 pub mod Completeness
 pub mod Ending
-pub mod Parts
 pub mod ClashFree
 pub mod ExampleOutcomes
 pub mod ExampleRefusals

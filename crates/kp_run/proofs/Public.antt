@@ -15,6 +15,8 @@ pub use Rattle.kp_run.proofs.Answered.{outcomes_are_answers}
 pub use Rattle.kp_run.proofs.Counted.{empty_tags_fit}
 -- ---- What it is that a command comes to.
 pub use Rattle.kp_run.proofs.Comes.{due_by, due_makes}
+-- ---- What files hold, as a list of one.
+pub use Rattle.kp_run.proofs.Reading.{content_held, held_alone, named_held as named_merges_held}
 -- ---- The last printed line is `complete` just where no target is uncovered.
 pub use Rattle.kp_run.proofs.CompleteText.{none_uncovered as complete_text_leaves_none, complete_told as complete_is_told}
 -- ---- Where a translation told `complete`, each plan of its files is the strip of a plan of what it put.

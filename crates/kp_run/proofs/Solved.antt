@@ -55,6 +55,7 @@ use Rattle.kp_names_semantics.specs.Faults.{HasNoFault}
 use Rattle.kp_names_semantics.specs.Numbering.{numbered_problem}
 use Rattle.kp_run.specs.Solved.{GoesOn, IsPosed, its_ground, its_formula, its_task, IsWrittenPlan, with_named, IsSolved, HasNoPlan, IsSpent, SolveIsTrue}
 use Rattle.kp_run.proofs.BothPlans.{both_plans}
+use Rattle.kp_run.proofs.Reading.{content_held, merges_held}
 use Rattle.kp_run.proofs.Comes.{due_makes}
 use Rattle.kp_run.proofs.Fitting.{task_fits}
 use Rattle.kp_run.proofs.PlanLines.{actions_read, steps_read}
@@ -114,7 +115,7 @@ module _ (m : FileMap) (c : Asked) (domain problem : List ℕ) (merges : List (L
 has_searched : (words : List (Vec ℕ Global)) (m : FileMap) (c : Asked) (o : Outcome) → IsCall verbs.Solve words c → IsDue words (Some m) o → IsNoRefusal o → HasSearched m c o
 has_searched words m c o is due answers =
     let it = due_makes words (Some m) verbs.Solve c o is due in
-    of_texts m c it.contents.domain it.contents.problem it.contents.merges it.are.domain it.are.problem it.are.merges o answers it.makes
+    of_texts m c it.contents.domain it.contents.problem it.contents.merges (content_held m c.domain _ it.are.domain) (content_held m c.problem _ it.are.problem) (merges_held (Some m) c _ it.are.merges) o answers it.makes
 
 -- ---- what its answer says
 

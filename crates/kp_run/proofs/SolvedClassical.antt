@@ -31,6 +31,7 @@ use Rattle.kp_run.specs.Outcomes.{IsDue}
 use Rattle.kp_run.specs.Ends.{Ends}
 use Rattle.kp_run_prepare.proofs.Public.{problem_of_trees}
 use Rattle.kp_run.specs.Solved.{IsHeldClassical, IsPosedClassical, IsSolvedClassical, HasNoClassicalPlan, IsSpentClassical, ClassicalIsTrue}
+use Rattle.kp_run.proofs.Reading.{content_held}
 use Rattle.kp_run.proofs.Comes.{due_makes}
 use Rattle.kp_run.proofs.Fitting.{classical_fit}
 use Rattle.kp_run.proofs.PlanLines.{actions_read}
@@ -62,7 +63,7 @@ of_texts m c domain problem domain_held problem_held o answers (later d p trees 
 has_searched : (words : List (Vec ℕ Global)) (m : FileMap) (c : Asked) (o : Outcome) → IsCall verbs.Classical words c → IsDue words (Some m) o → IsNoRefusal o → HasSearched m c o
 has_searched words m c o is due answers =
     let it = due_makes words (Some m) verbs.Classical c o is due in
-    of_texts m c it.contents.domain it.contents.problem it.are.domain it.are.problem o answers it.makes
+    of_texts m c it.contents.domain it.contents.problem (content_held m c.domain _ it.are.domain) (content_held m c.problem _ it.are.problem) o answers it.makes
 
 -- ---- what its answer says
 

@@ -43,6 +43,7 @@ use Rattle.kp_run.specs.Translate.{translates, TranslatesGround, over as when_ov
 use Rattle.kp_run.specs.Outcomes.{IsDue}
 use Rattle.kp_run.specs.Ends.{Ends, came, read_failed, no_memory}
 use Rattle.kp_run.specs.Soundness.{IsSound}
+use Rattle.kp_run.proofs.Reading.{content_held, merges_held}
 use Rattle.kp_run.proofs.Comes.{due_makes}
 
 -- ---- what is held under two names
@@ -113,7 +114,7 @@ pub record AreBoth (m : FileMap) (c : Asked) (o : Outcome) : Type 0 where
 pub both_held : (words : List (Vec ℕ Global)) (m : FileMap) (c : Asked) (o : Outcome) → IsCall verbs.Translate words c → IsDue words (Some m) o → AreBoth m c o
 both_held words m c o is due =
     let it = due_makes words (Some m) verbs.Translate c o is due in
-    record { domain = it.contents.domain; problem = it.contents.problem; merges = it.contents.merges; domain_held = it.are.domain; problem_held = it.are.problem; merges_held = it.are.merges; texts = it.makes }
+    record { domain = it.contents.domain; problem = it.contents.problem; merges = it.contents.merges; domain_held = content_held m c.domain _ it.are.domain; problem_held = content_held m c.problem _ it.are.problem; merges_held = merges_held (Some m) c _ it.are.merges; texts = it.makes }
 
 module _ (before after : FileMap) (c : Asked) (o : Outcome) (apart : c.domain_out ≢ c.problem_out) (both : AreBoth before c o) (done : o.status ≡ status.Done) (puts : Some after ≡ with_files (Some before) o.puts) where
   pub all_done : IsDone c both.domain both.problem both.merges o

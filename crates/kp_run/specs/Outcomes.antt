@@ -20,7 +20,7 @@ use Rattle.kp_run.specs.Check.{ChecksTexts}
 use Rattle.kp_run.specs.Width.{WidthTexts}
 use Rattle.kp_run.specs.Merges.{MergesTexts}
 
--- a command of a verb comes to this outcome on what its input files hold
+-- what a command comes to on what its input files hold, by its verb
 abbrev pub ComesBy : Verb → Asked → Contents → Outcome → Type 0
 ComesBy verbs.Translate c t = TranslatesTexts c t.domain t.problem t.merges
 ComesBy verbs.Solve c t = SolvesTexts c t.domain t.problem t.merges
@@ -32,6 +32,7 @@ ComesBy verbs.Width c t = WidthTexts c t.domain t.problem
 ComesBy verbs.Merges c t = MergesTexts c t.domain t.problem
 ComesBy verbs.Bench c t = Benches c
 
+-- a command comes to this outcome on what its input files hold
 abbrev pub ComesTo : Asked → Contents → Outcome → Type 0
 ComesTo c = ComesBy c.verb c
 
@@ -42,4 +43,4 @@ shows_usage = record { status = status.Usage; puts = []; text = usage_text }
 -- The outcome that is due: the usage where the words are no command; else what the command comes to on what its input files hold. Where that isn't told, they may hold anything.
 pub data IsDue (words : List (Vec ℕ Global)) (held : Option FileMap) : Outcome → Type 0 where
   usage : IsNoCommand words → IsDue words held shows_usage
-  of_command : (c : Asked) (t : Contents) (o : Outcome) → IsCommand words c → AreContents held c.verb c t → ComesTo c t o → IsDue words held o
+  of_command : (c : Asked) (t : Contents) (o : Outcome) → IsCommand words c → AreContents held c t → ComesTo c t o → IsDue words held o

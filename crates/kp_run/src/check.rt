@@ -1,21 +1,16 @@
-ghost use Rattle.std.specs.Prelude.{◌≡◌, ◌<◌, Some, List, ℕ, true, nat_lt, codes, IfOk, length, Option as Maybe};
+ghost use Rattle.std.specs.Prelude.{◌≡◌, ◌<◌, Some, List, ℕ, true, nat_lt, codes, IfOk, length};
 ghost use Rattle.std.specs.List.{list_all};
 ghost use Rattle.kp_base.specs.declared.ground.Initial.{Initial as Formula};
 ghost use Rattle.kp_base.specs.Entailed.{HaveSameModels};
 ghost use Rattle.kp_base.specs.Files.{most_bytes};
-ghost use Rattle.kp_outside.specs.Outside.{IsFront, IsWithin, FileMap};
+ghost use Rattle.kp_outside.specs.Outside.{IsFront, IsWithin};
 ghost use Rattle.kp_primes.specs.Held.{formula};
 ghost use Rattle.kp_run_prepare.specs.Prepared.{IsUsable};
 ghost use Rattle.kp_run_inputs.specs.Actions.{ComesByPlan};
 ghost use Rattle.kp_run_messages.specs.Counterexamples.{counterexample_text};
 ghost use Rattle.kp_run_outcome.specs.Printing.{prints, denies};
-ghost use Rattle.kp_run.specs.Check.{tells, TellsJudged};
-ghost use Rattle.kp_run.specs.CommandParts.{AreInputs, IsReadOf};
-ghost use Rattle.kp_run.specs.Contents.{Contents, AreContents};
-ghost use Rattle.kp_run.specs.Outcomes.{ComesBy};
-ghost use Rattle.kp_words.specs.declared.verb.Verb.TheVariants as verbs;
+ghost use Rattle.kp_run.specs.Check.{tells, ChecksTexts, TellsJudged};
 
-use crate::inputs::Inputs;
 use crate::outcomes::{failing, print_text};
 use kp_base::{AtomId, Ground, Lit, Memory, Row};
 use kp_check::{Judged, check};
@@ -90,19 +85,18 @@ fn check_plan(alloc: Global, prepared: &Prepared, plan: Got) -> Result<Outcome, 
 }
 
 /// What a check comes to on what was read of its files.
-pub fn check_on(alloc: Global, asked: &Asked<'_>, inputs: Inputs) -> Result<Outcome, Memory>
-    requires { (held : Maybe FileMap) × IsReadOf held verbs.Check asked.now inputs }
-    ensures { (held : Maybe FileMap) (t : Contents) → AreContents held verbs.Check asked.now t → AreInputs t inputs → IfOk result (ComesBy verbs.Check asked.now t) }
+pub fn check_on(
+    alloc: Global,
+    asked: &Asked<'_>,
+    domain: Got,
+    problem: Got,
+    plan: Got,
+) -> Result<Outcome, Memory>
+    requires domain { IsWithin most_bytes domain }
+    requires problem { IsWithin most_bytes problem }
+    requires plan { IsWithin most_bytes plan }
+    ensures { (x y text : List ℕ) → IsFront (Some x) most_bytes domain → IsFront (Some y) most_bytes problem → IsFront (Some text) most_bytes plan → IfOk result (ChecksTexts asked.now x y text) }
 {
-    let Inputs {
-        domain,
-        problem,
-        merges,
-        plan,
-        written,
-    } = inputs;
-    drop(merges);
-    drop(written);
     match prepare(alloc, asked.implicates, domain, problem) {
         Ok(prepared) => check_plan(alloc, &prepared, plan),
         Err(early) => settle(early),

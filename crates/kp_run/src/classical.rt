@@ -1,12 +1,10 @@
-ghost use Rattle.std.specs.Prelude.{IfOk, Option as Maybe};
-ghost use Rattle.kp_outside.specs.Outside.{FileMap};
-ghost use Rattle.kp_run.specs.CommandParts.{AreInputs, IsReadOf};
-ghost use Rattle.kp_run.specs.Contents.{Contents, AreContents};
-ghost use Rattle.kp_run.specs.Outcomes.{ComesBy};
-ghost use Rattle.kp_words.specs.declared.verb.Verb.TheVariants as verbs;
+ghost use Rattle.std.specs.Prelude.{ℕ, List, IfOk, Some};
+ghost use Rattle.kp_outside.specs.Outside.{IsFront, IsWithin};
+ghost use Rattle.kp_base.specs.Files.{most_bytes};
+ghost use Rattle.kp_run.specs.Classical.{ClassicalTexts};
 
-use crate::inputs::Inputs;
 use kp_base::Memory;
+use kp_outside::Got;
 use kp_run_classical::prepare_classical;
 use kp_run_inputs::settle;
 use kp_run_outcome::Outcome;
@@ -15,20 +13,16 @@ use kp_words::Asked;
 use std::alloc::Global;
 
 /// What a call to solve two classical files comes to on what was read of its files.
-pub fn classical_on(alloc: Global, asked: &Asked<'_>, inputs: Inputs) -> Result<Outcome, Memory>
-    requires { (held : Maybe FileMap) × IsReadOf held verbs.Classical asked.now inputs }
-    ensures { (held : Maybe FileMap) (t : Contents) → AreContents held verbs.Classical asked.now t → AreInputs t inputs → IfOk result (ComesBy verbs.Classical asked.now t) }
+pub fn classical_on(
+    alloc: Global,
+    asked: &Asked<'_>,
+    domain: Got,
+    problem: Got,
+) -> Result<Outcome, Memory>
+    requires domain { IsWithin most_bytes domain }
+    requires problem { IsWithin most_bytes problem }
+    ensures { (x y : List ℕ) → IsFront (Some x) most_bytes domain → IsFront (Some y) most_bytes problem → IfOk result (ClassicalTexts asked.now x y) }
 {
-    let Inputs {
-        domain,
-        problem,
-        merges,
-        plan,
-        written,
-    } = inputs;
-    drop(merges);
-    drop(plan);
-    drop(written);
     match prepare_classical(alloc, domain, problem) {
         Ok(posed) => solve_classical(alloc, asked.budget, &posed.ground, &posed.task),
         Err(early) => settle(early),

@@ -1,56 +1,76 @@
-ghost use Rattle.std.specs.Prelude.{◌≡◌, ℕ, List, map, Option, IfOk, Vec as Vector};
+ghost use Rattle.std.specs.Prelude.{◌≡◌, ◌++◌, ◌∷◌, [], ℕ, List, map, filter_map, Option, IfOk, OnOk, Vec as Vector};
 ghost use Rattle.std.specs.declared.alloc.Global.{Global as Alloc};
-ghost use Rattle.kp_outside.specs.Outside.{FileMap};
+ghost use Rattle.kp_base.specs.Files.{most_bytes};
+ghost use Rattle.kp_outside.specs.Outside.{FileMap, IsWithin};
 ghost use Rattle.kp_run_outcome.specs.Ends.{over, GetFails, OnlyReads};
 ghost use Rattle.kp_words.specs.declared.verb.Verb.TheVariants as verbs;
 ghost use Rattle.kp_words_options.specs.Texts.{texts as texts_of};
-ghost use Rattle.kp_words.specs.Command.{AreUtf8, inputs_of};
+ghost use Rattle.kp_words.specs.Forms.{form};
+ghost use Rattle.kp_words.specs.Command.{AreUtf8, file_under, inputs_of};
 ghost use Rattle.kp_words.specs.Options.{IsOfRange};
-ghost use Rattle.kp_run_bench.specs.Bench.{Benches};
-ghost use Rattle.kp_run.specs.Contents.{Contents, AreContents};
-ghost use Rattle.kp_run.specs.CommandParts.{AreInputs, IsReadOf};
+ghost use Rattle.kp_run.specs.Contents.{Contents, AreContentsUnder, AreContents};
+ghost use Rattle.kp_run.specs.CommandParts.{AreInputs, AreReadUnder};
 ghost use Rattle.kp_run.specs.Outcomes.{ComesBy, ComesTo, IsDue};
 ghost use Rattle.kp_run.specs.Ends.{Ends, InputFails};
 ghost use Rattle.kp_run.specs.Clauses.{IsSoundRun, IsCompleteRun, IsSolveRun, IsClassicalRun};
 
 use crate::check::check_on;
 use crate::classical::classical_on;
-use crate::inputs::Inputs;
+use crate::inputs::{Inputs, origin_of};
 use crate::lift::lift_on;
 use crate::merges::merges_on;
 use crate::outcomes::usage_outcome;
 use crate::solve::solve_on;
-use crate::strip::strip_on;
+use crate::strip::strip_text;
 use crate::translate::translate_on;
 use crate::width::width_on;
 use kp_base::Memory;
 use kp_outside::{OutsideStop, Shelf, Sink};
 use kp_run_bench::bench;
-use kp_run_outcome::{Outcome, Status, carry_out, read_inputs, stopped};
+use kp_run_outcome::{Outcome, Status, carry_out, stopped};
 use kp_words::{Asked, Verb, WordStop, as_texts, asked_by};
 use std::alloc::Global;
 
-// Reads the files that a command names, in order.
-fn read<S: Shelf>(alloc: Global, asked: &Asked<'_>, shelf: &mut S) -> Result<Inputs, OutsideStop>
-    ensures read { IfOk result (IsReadOf (S.contents shelf.old) asked.now.verb asked.now) }
-    ensures only { OnlyReads S.Shelf shelf.old shelf.new (GetFails (inputs_of asked.now)) result }
+// The most bytes that are read of a file.
+const MOST_BYTES: usize = 16_777_216;
+
+// Reads the file that stands under a name, if there is one. At `Err` that failed, or memory ran out.
+fn read_under<S: Shelf>(
+    alloc: Global,
+    asked: &Asked<'_>,
+    name: &str,
+    shelf: &mut S,
+    inputs: &mut Inputs,
+) -> Result<(), OutsideStop>
+    ensures read { OnOk result ((names : List (List ℕ)) → AreReadUnder (S.contents shelf.old) names asked.now inputs.old → AreReadUnder (S.contents shelf.old) (names ++ name.now ∷ []) asked.now inputs.new) }
+    ensures only { OnlyReads S.Shelf shelf.old shelf.new (GetFails (filter_map (file_under asked.now) (name.now ∷ []))) result }
 {
-    let names = asked.inputs(alloc)?;
-    let gots = read_inputs(alloc, names.as_slice(), shelf);
-    drop(names);
-    match gots {
-        Ok(gots) => Ok(Inputs::of(alloc, asked, gots)),
-        Err(stop) => Err(stop),
+    match asked.file(name) {
+        Some(file) => match shelf.get(alloc, file, MOST_BYTES) {
+            Ok(got) => {
+                inputs.set(name, got);
+                Ok(())
+            }
+            Err(stop) => Err(stop),
+        },
+        None => Ok(()),
     }
 }
 
-// What a run on a generated problem comes to, for which no file is read.
-fn bench_on(alloc: Global, asked: &Asked<'_>, inputs: Inputs) -> Result<Outcome, Memory>
-    requires { IsOfRange 2 100 asked.now.size }
-    ensures { IfOk result (Benches asked.now) }
+// Reads the files that a command reads, in order.
+fn read<S: Shelf>(alloc: Global, asked: &Asked<'_>, shelf: &mut S) -> Result<Inputs, OutsideStop>
+    ensures read { IfOk result (AreReadUnder (S.contents shelf.old) (form asked.now.verb).reads asked.now) }
+    ensures only { OnlyReads S.Shelf shelf.old shelf.new (GetFails (inputs_of asked.now)) result }
 {
-    drop(inputs);
-    bench(alloc, asked)
+    let mut inputs = Inputs::new(alloc);
+    let reads = asked.verb.reads();
+    for name in reads {
+        match read_under(alloc, asked, name, shelf, &mut inputs) {
+            Ok(()) => {}
+            Err(stop) => return Err(stop),
+        }
+    }
+    Ok(inputs)
 }
 
 // What a command of this verb comes to on what was read of its input files.
@@ -61,19 +81,37 @@ fn outcome_by(
     inputs: Inputs,
 ) -> Result<Outcome, Memory>
     requires size { verb ≡ verbs.Bench → IsOfRange 2 100 asked.now.size }
-    requires read { (held : Option FileMap) × IsReadOf held verb asked.now inputs }
-    ensures { (held : Option FileMap) (t : Contents) → AreContents held verb asked.now t → AreInputs t inputs → IfOk result (ComesBy verb asked.now t) }
+    requires domain { IsWithin most_bytes inputs.domain }
+    requires problem { IsWithin most_bytes inputs.problem }
+    requires plan { IsWithin most_bytes inputs.plan }
+    requires written { IsWithin most_bytes inputs.written }
+    requires read { (held : Option FileMap) × AreReadUnder held (form verb).reads asked.now inputs }
+    ensures { (held : Option FileMap) (t : Contents) → AreContentsUnder (form verb).reads held asked.now t → AreInputs t inputs → IfOk result (ComesBy verb asked.now t) }
 {
+    let Inputs {
+        domain,
+        problem,
+        merges,
+        plan,
+        written,
+    } = inputs;
     match verb {
-        Verb::Translate => translate_on(alloc, asked, inputs),
-        Verb::Solve => solve_on(alloc, asked, inputs),
-        Verb::Classical => classical_on(alloc, asked, inputs),
-        Verb::Strip => strip_on(alloc, asked, inputs),
-        Verb::Lift => lift_on(alloc, asked, inputs),
-        Verb::Check => check_on(alloc, asked, inputs),
-        Verb::Width => width_on(alloc, asked, inputs),
-        Verb::Merges => merges_on(alloc, asked, inputs),
-        Verb::Bench => bench_on(alloc, asked, inputs),
+        Verb::Translate => { translate_on(alloc, asked, domain, problem, origin_of(asked, merges)) }
+        Verb::Solve => solve_on(alloc, asked, domain, problem, origin_of(asked, merges)),
+        Verb::Classical => classical_on(alloc, asked, domain, problem),
+        Verb::Strip => strip_text(alloc, written),
+        Verb::Lift => lift_on(
+            alloc,
+            asked,
+            domain,
+            problem,
+            origin_of(asked, merges),
+            plan,
+        ),
+        Verb::Check => check_on(alloc, asked, domain, problem, plan),
+        Verb::Width => width_on(alloc, asked, domain, problem),
+        Verb::Merges => merges_on(alloc, asked, domain, problem),
+        Verb::Bench => bench(alloc, asked),
     }
 }
 
@@ -84,7 +122,7 @@ fn come_to<S: Shelf>(
     shelf: &mut S,
 ) -> Result<Outcome, OutsideStop>
     requires { asked.now.verb ≡ verbs.Bench → IsOfRange 2 100 asked.now.size }
-    ensures comes_to { IfOk result (λ o. (t : Contents) × AreContents (S.contents shelf.old) asked.now.verb asked.now t × ComesTo asked.now t o) }
+    ensures comes_to { IfOk result (λ o. (t : Contents) × AreContents (S.contents shelf.old) asked.now t × ComesTo asked.now t o) }
     ensures only { OnlyReads S.Shelf shelf.old shelf.new (GetFails (inputs_of asked.now)) result }
 {
     let inputs = read(alloc, asked, shelf)?;

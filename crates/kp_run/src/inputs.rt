@@ -1,12 +1,12 @@
 //! What was read of the input files of a command, each by the part that it plays.
-ghost use Rattle.std.specs.Prelude.{◌≡◌, ◌++◌, ◌∷◌, [], ℕ, List, Option as Maybe, Some, length, if◌then◌else◌};
+ghost use Rattle.std.specs.Prelude.{◌≡◌, [], ℕ, List, Option as Maybe, Some};
 ghost use Rattle.kp_base.specs.Files.{most_bytes};
 ghost use Rattle.kp_outside.specs.Outside.{FileMap, IsFront};
-ghost use Rattle.kp_run_outcome.specs.Ends.{AreFronts, AreHeld};
-ghost use Rattle.kp_words.specs.Asked.{source_of};
-ghost use Rattle.kp_words.specs.Command.{file_of, if_named, inputs_of};
+ghost use Rattle.kp_run_outcome.specs.Ends.{AreHeld};
+ghost use Rattle.kp_words.specs.Asked.{Asked as Names, source_of};
+ghost use Rattle.kp_words.specs.Command.{if_named};
 ghost use Rattle.kp_run_inputs.specs.SourceTables.{IsOrigin};
-ghost use Rattle.kp_run.specs.CommandParts.{IsReadOf, if_got};
+ghost use Rattle.kp_run.specs.CommandParts.{AreMerges, AreReadUnder, with_read};
 
 use kp_base::Row;
 use kp_outside::Got;
@@ -39,58 +39,41 @@ fn nothing(alloc: Global) -> Got
     }
 }
 
-// What was read last, if a file was read; else nothing.
-fn last(alloc: Global, gots: &mut Vec<Got>, is_read: bool) -> Got
-    ensures { (front : List (List ℕ)) (text : List ℕ) → AreFronts (front ++ (if is_read then text ∷ [] else [])) gots.old.items → AreFronts front gots.new.items × IsFront (Some (if is_read then text else [])) most_bytes result }
-{
-    if !is_read {
-        return nothing(alloc);
-    }
-    match gots.pop() {
-        Some(got) => got,
-        None => nothing(alloc),
-    }
-}
-
-// What was read last, if a file of merges was read.
-fn last_of_merges(gots: &mut Vec<Got>, is_read: bool) -> Option<Got>
-    ensures { (front texts : List (List ℕ)) → length texts ≡ (if is_read then 1 else 0) → AreFronts (front ++ texts) gots.old.items → AreFronts front gots.new.items × AreFronts texts (if_got result) }
-{
-    if !is_read {
-        return None;
-    }
-    gots.pop()
-}
-
 impl Inputs {
-    /// What was read of the files of a command, in their order.
-    pub fn of(alloc: Global, asked: &Asked<'_>, gots: Row<Got>) -> Inputs
-        ensures { (held : Maybe FileMap) (texts : List (List ℕ)) → AreHeld held (inputs_of asked.now) texts → AreFronts texts gots → IsReadOf held asked.now.verb asked.now result }
+    /// Nothing is read.
+    pub fn new(alloc: Global) -> Inputs
+        ensures { (held : Maybe FileMap) (c : Names) → AreReadUnder held [] c result }
     {
-        let mut left = gots.into_vec();
-        let has_t = asked.verb.has_place("T");
-        let written = last(alloc, &mut left, has_t);
-        let has_plan = asked.verb.has_place("PLAN");
-        let plan = last(alloc, &mut left, has_plan);
-        let has_merges = asked.reads_merges();
-        let merges = last_of_merges(&mut left, has_merges);
-        let has_p = asked.verb.has_place("P");
-        let problem = last(alloc, &mut left, has_p);
-        let has_d = asked.verb.has_place("D");
-        let domain = last(alloc, &mut left, has_d);
         Inputs {
-            domain,
-            problem,
-            merges,
-            plan,
-            written,
+            domain: nothing(alloc),
+            problem: nothing(alloc),
+            merges: None,
+            plan: nothing(alloc),
+            written: nothing(alloc),
+        }
+    }
+
+    /// This is read under a name.
+    pub fn set(&mut self, name: &str, got: Got)
+        ensures { self.new ≡ with_read name.now got self.old }
+    {
+        if name == "D" {
+            self.domain = got;
+        } else if name == "P" {
+            self.problem = got;
+        } else if name == "merges" {
+            self.merges = Some(got);
+        } else if name == "PLAN" {
+            self.plan = got;
+        } else if name == "T" {
+            self.written = got;
         }
     }
 }
 
 /// Where the tags and merges of a command come from that names a file of merges or a mode.
 pub fn origin_of(asked: &Asked<'_>, merges: Option<Got>) -> Origin
-    ensures { (held : Maybe FileMap) (texts : List (List ℕ)) → AreHeld held (if_named (file_of (source_of asked.now))) texts → AreFronts texts (if_got merges) → IsOrigin (source_of asked.now) texts result }
+    ensures { (held : Maybe FileMap) (texts : List (List ℕ)) → AreHeld held (if_named asked.now.merges) texts → AreMerges texts merges → IsOrigin (source_of asked.now) texts result }
 {
     match merges {
         Some(got) => Origin::Merges(got),

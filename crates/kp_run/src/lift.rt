@@ -1,10 +1,10 @@
-ghost use Rattle.std.specs.Prelude.{◌≡◌, ◌<◌, Some, List, ℕ, true, nat_lt, IfOk, length, Option as Maybe};
+ghost use Rattle.std.specs.Prelude.{◌≡◌, ◌<◌, Some, List, ℕ, true, nat_lt, IfOk, length};
 ghost use Rattle.std.specs.List.{list_all};
 ghost use Rattle.kp_base.specs.declared.ground.Initial.{Initial as Formula};
 ghost use Rattle.kp_base.specs.Entailed.{HaveSameModels};
-ghost use Rattle.kp_outside.specs.Outside.{IsFront, IsWithin, FileMap};
+ghost use Rattle.kp_outside.specs.Outside.{IsFront, IsWithin};
 ghost use Rattle.kp_primes.specs.Held.{formula};
-ghost use Rattle.kp_words.specs.Asked.{Source};
+ghost use Rattle.kp_words.specs.Asked.{Source, source_of};
 ghost use Rattle.kp_run_prepare.specs.Prepared.{IsUsable};
 ghost use Rattle.kp_run_inputs.specs.SourceTables.{IsOrigin, IsShort, ComesByTable};
 ghost use Rattle.kp_run_inputs.specs.Actions.{ComesByPlan};
@@ -14,13 +14,9 @@ ghost use Rattle.kp_base.specs.Files.{most_bytes};
 ghost use Rattle.kp_lift.specs.Lifting.{IsTableOn};
 ghost use Rattle.kp_run_messages.specs.Lifting.{unlifted_text};
 ghost use Rattle.kp_run_outcome.specs.Printing.{denies};
-ghost use Rattle.kp_run.specs.Lift.{LiftsActions, LiftsPlan};
-ghost use Rattle.kp_run.specs.CommandParts.{PrintsOperators, AreInputs, IsReadOf};
-ghost use Rattle.kp_run.specs.Contents.{Contents, AreContents};
-ghost use Rattle.kp_run.specs.Outcomes.{ComesBy};
-ghost use Rattle.kp_words.specs.declared.verb.Verb.TheVariants as verbs;
+ghost use Rattle.kp_run.specs.Lift.{LiftsActions, LiftsPlan, LiftsTexts};
+ghost use Rattle.kp_run.specs.CommandParts.{PrintsOperators};
 
-use crate::inputs::{Inputs, origin_of};
 use crate::outcomes::{failing, print_text};
 use kp_base::{Ground, Limits, Lit, Memory, Row, Stop, TagTable};
 use kp_classic::Task;
@@ -152,19 +148,20 @@ fn lift_by(alloc: Global, prepared: &Prepared, origin: Origin, plan: Got) -> Res
 }
 
 /// What a lift comes to on what was read of its files.
-pub fn lift_on(alloc: Global, asked: &Asked<'_>, inputs: Inputs) -> Result<Outcome, Memory>
-    requires { (held : Maybe FileMap) × IsReadOf held verbs.Lift asked.now inputs }
-    ensures { (held : Maybe FileMap) (t : Contents) → AreContents held verbs.Lift asked.now t → AreInputs t inputs → IfOk result (ComesBy verbs.Lift asked.now t) }
+pub fn lift_on(
+    alloc: Global,
+    asked: &Asked<'_>,
+    domain: Got,
+    problem: Got,
+    origin: Origin,
+    plan: Got,
+) -> Result<Outcome, Memory>
+    requires domain { IsWithin most_bytes domain }
+    requires problem { IsWithin most_bytes problem }
+    requires origin { (merges : List (List ℕ)) × IsOrigin (source_of asked.now) merges origin }
+    requires plan { IsWithin most_bytes plan }
+    ensures { (x y text : List ℕ) (merges : List (List ℕ)) → IsFront (Some x) most_bytes domain → IsFront (Some y) most_bytes problem → IsOrigin (source_of asked.now) merges origin → IsFront (Some text) most_bytes plan → IfOk result (LiftsTexts asked.now x y merges text) }
 {
-    let Inputs {
-        domain,
-        problem,
-        merges,
-        plan,
-        written,
-    } = inputs;
-    drop(written);
-    let origin = origin_of(asked, merges);
     match prepare(alloc, asked.implicates, domain, problem) {
         Ok(prepared) => lift_by(alloc, &prepared, origin, plan),
         Err(early) => settle(early),

@@ -1,20 +1,17 @@
-ghost use Rattle.std.specs.Prelude.{[], IfOk, Option as Maybe};
+ghost use Rattle.std.specs.Prelude.{[], ℕ, List, IfOk, Some};
 ghost use Rattle.kp_base.specs.declared.ground.Initial.{Initial as Formula};
 ghost use Rattle.kp_base.specs.Entailed.{HaveSameModels};
-ghost use Rattle.kp_outside.specs.Outside.{FileMap};
+ghost use Rattle.kp_outside.specs.Outside.{IsFront, IsWithin};
 ghost use Rattle.kp_primes.specs.Held.{formula};
 ghost use Rattle.kp_words.specs.Asked.{of_mode};
 ghost use Rattle.kp_run_prepare.specs.Prepared.{IsUsable};
 ghost use Rattle.kp_run_inputs.specs.SourceTables.{ComesByTable};
-ghost use Rattle.kp_run.specs.Merges.{MergesGround};
-ghost use Rattle.kp_run.specs.CommandParts.{AreInputs, IsReadOf};
-ghost use Rattle.kp_run.specs.Contents.{Contents, AreContents};
-ghost use Rattle.kp_run.specs.Outcomes.{ComesBy};
-ghost use Rattle.kp_words.specs.declared.verb.Verb.TheVariants as verbs;
+ghost use Rattle.kp_run.specs.Merges.{MergesGround, MergesTexts};
+ghost use Rattle.kp_base.specs.Files.{most_bytes};
 
-use crate::inputs::Inputs;
 use crate::outcomes::print_text;
 use kp_base::{Ground, Memory, Mode, TagTable};
+use kp_outside::Got;
 use kp_run_inputs::{Origin, settle, table_alone};
 use kp_run_outcome::Outcome;
 use kp_run_prepare::{Prepared, prepare};
@@ -41,20 +38,16 @@ fn list_in(alloc: Global, prepared: &Prepared, mode: Mode) -> Result<Outcome, Me
 }
 
 /// What a call for merges comes to on what was read of its files.
-pub fn merges_on(alloc: Global, asked: &Asked<'_>, inputs: Inputs) -> Result<Outcome, Memory>
-    requires { (held : Maybe FileMap) × IsReadOf held verbs.Merges asked.now inputs }
-    ensures { (held : Maybe FileMap) (t : Contents) → AreContents held verbs.Merges asked.now t → AreInputs t inputs → IfOk result (ComesBy verbs.Merges asked.now t) }
+pub fn merges_on(
+    alloc: Global,
+    asked: &Asked<'_>,
+    domain: Got,
+    problem: Got,
+) -> Result<Outcome, Memory>
+    requires domain { IsWithin most_bytes domain }
+    requires problem { IsWithin most_bytes problem }
+    ensures { (x y : List ℕ) → IsFront (Some x) most_bytes domain → IsFront (Some y) most_bytes problem → IfOk result (MergesTexts asked.now x y) }
 {
-    let Inputs {
-        domain,
-        problem,
-        merges,
-        plan,
-        written,
-    } = inputs;
-    drop(merges);
-    drop(plan);
-    drop(written);
     match prepare(alloc, asked.implicates, domain, problem) {
         Ok(prepared) => list_in(alloc, &prepared, asked.mode),
         Err(early) => settle(early),

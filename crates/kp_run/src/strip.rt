@@ -1,21 +1,15 @@
-ghost use Rattle.std.specs.Prelude.{◌≤◌, Some, List, ℕ, IfOk, length, Option as Maybe};
+ghost use Rattle.std.specs.Prelude.{◌≤◌, Some, List, ℕ, IfOk, length};
 ghost use Rattle.kp_base.specs.Files.{most_bytes};
-ghost use Rattle.kp_outside.specs.Outside.{IsFront, IsWithin, FileMap};
+ghost use Rattle.kp_outside.specs.Outside.{IsFront, IsWithin};
 ghost use Rattle.kp_plans.specs.PlanFiles.{IsPlanFile};
 ghost use Rattle.kp_run.specs.Strip.{StripsText};
-ghost use Rattle.kp_run.specs.CommandParts.{AreInputs, IsReadOf};
-ghost use Rattle.kp_run.specs.Contents.{Contents, AreContents};
-ghost use Rattle.kp_run.specs.Outcomes.{ComesBy};
-ghost use Rattle.kp_words.specs.declared.verb.Verb.TheVariants as verbs;
 
-use crate::inputs::Inputs;
 use crate::outcomes::print_text;
 use kp_base::{Memory, Part, Refused, Row, Stop};
 use kp_outside::Got;
 use kp_plans::{PlanStep, plan_text, read_plan, strip};
 use kp_run_outcome::Outcome;
 use kp_run_prepare::refuse;
-use kp_words::Asked;
 use std::alloc::Global;
 
 // What the steps of a plan file come to.
@@ -29,8 +23,8 @@ fn strip_steps(alloc: Global, steps: &Row<PlanStep>) -> Result<Outcome, Memory>
     }
 }
 
-// What a plan file comes to, at most 16,777,216 bytes of which were read.
-fn strip_text(alloc: Global, got: Got) -> Result<Outcome, Memory>
+/// What a plan file comes to, at most 16,777,216 bytes of which were read.
+pub fn strip_text(alloc: Global, got: Got) -> Result<Outcome, Memory>
     requires { IsWithin most_bytes got }
     ensures { (text : List ℕ) → IsFront (Some text) most_bytes got → IfOk result (StripsText text) }
 {
@@ -42,24 +36,4 @@ fn strip_text(alloc: Global, got: Got) -> Result<Outcome, Memory>
         Err(Stop::Refused(refused)) => refuse(alloc, refused),
         Err(Stop::Memory) => Err(Memory),
     }
-}
-
-/// What a strip comes to on what was read of its files.
-pub fn strip_on(alloc: Global, asked: &Asked<'_>, inputs: Inputs) -> Result<Outcome, Memory>
-    requires { (held : Maybe FileMap) × IsReadOf held verbs.Strip asked.now inputs }
-    ensures { (held : Maybe FileMap) (t : Contents) → AreContents held verbs.Strip asked.now t → AreInputs t inputs → IfOk result (ComesBy verbs.Strip asked.now t) }
-{
-    let Inputs {
-        domain,
-        problem,
-        merges,
-        plan,
-        written,
-    } = inputs;
-    drop(domain);
-    drop(problem);
-    drop(merges);
-    drop(plan);
-    let _ = asked;
-    strip_text(alloc, written)
 }

@@ -1,24 +1,22 @@
-ghost use Rattle.std.specs.Prelude.{◌≡◌, List, ℕ, IfOk, Option as Maybe};
+ghost use Rattle.std.specs.Prelude.{◌≡◌, List, ℕ, IfOk, Some};
 ghost use Rattle.kp_base.specs.declared.ground.Initial.{Initial as Formula};
 ghost use Rattle.kp_base.specs.Entailed.{IsTable, HaveSameModels};
-ghost use Rattle.kp_outside.specs.Outside.{FileMap};
+ghost use Rattle.kp_outside.specs.Outside.{IsFront, IsWithin};
 ghost use Rattle.kp_primes.specs.Held.{formula};
 ghost use Rattle.kp_relevance.specs.Relevant.{ArePairsOf};
 ghost use Rattle.kp_ktask_texts.specs.Translations.{translation_with};
-ghost use Rattle.kp_words.specs.Asked.{Source};
+ghost use Rattle.kp_words.specs.Asked.{Source, source_of};
 ghost use Rattle.kp_run_prepare.specs.Prepared.{IsUsable};
 ghost use Rattle.kp_run_inputs.specs.SourceTables.{IsOrigin, IsShort, ComesByTable};
-ghost use Rattle.kp_run.specs.Translate.{TranslatesGround};
-ghost use Rattle.kp_run.specs.CommandParts.{IsPut, AreInputs, IsReadOf};
-ghost use Rattle.kp_run.specs.Contents.{Contents, AreContents};
-ghost use Rattle.kp_run.specs.Outcomes.{ComesBy};
-ghost use Rattle.kp_words.specs.declared.verb.Verb.TheVariants as verbs;
+ghost use Rattle.kp_run.specs.Translate.{TranslatesGround, TranslatesTexts};
+ghost use Rattle.kp_run.specs.CommandParts.{IsPut};
+ghost use Rattle.kp_base.specs.Files.{most_bytes};
 
-use crate::inputs::{Inputs, origin_of};
 use crate::outcomes::translates;
 use kp_base::{Limits, Memory, Stop, TagTable};
 use kp_cover::coverage;
 use kp_ktask_texts::{Translation, translation_with};
+use kp_outside::Got;
 use kp_relevance::Relevance;
 use kp_run_inputs::{Origin, settle, table_of};
 use kp_run_outcome::Outcome;
@@ -92,20 +90,18 @@ fn with_origin(
 }
 
 /// What a translation comes to on what was read of its files.
-pub fn translate_on(alloc: Global, asked: &Asked<'_>, inputs: Inputs) -> Result<Outcome, Memory>
-    requires { (held : Maybe FileMap) × IsReadOf held verbs.Translate asked.now inputs }
-    ensures { (held : Maybe FileMap) (t : Contents) → AreContents held verbs.Translate asked.now t → AreInputs t inputs → IfOk result (ComesBy verbs.Translate asked.now t) }
+pub fn translate_on(
+    alloc: Global,
+    asked: &Asked<'_>,
+    domain: Got,
+    problem: Got,
+    origin: Origin,
+) -> Result<Outcome, Memory>
+    requires domain { IsWithin most_bytes domain }
+    requires problem { IsWithin most_bytes problem }
+    requires origin { (merges : List (List ℕ)) × IsOrigin (source_of asked.now) merges origin }
+    ensures { (x y : List ℕ) (merges : List (List ℕ)) → IsFront (Some x) most_bytes domain → IsFront (Some y) most_bytes problem → IsOrigin (source_of asked.now) merges origin → IfOk result (TranslatesTexts asked.now x y merges) }
 {
-    let Inputs {
-        domain,
-        problem,
-        merges,
-        plan,
-        written,
-    } = inputs;
-    drop(plan);
-    drop(written);
-    let origin = origin_of(asked, merges);
     match prepare(alloc, asked.implicates, domain, problem) {
         Ok(prepared) => with_origin(alloc, asked, &prepared, origin),
         Err(early) => settle(early),

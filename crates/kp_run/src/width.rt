@@ -1,18 +1,15 @@
-ghost use Rattle.std.specs.Prelude.{◌≡◌, IfOk, Option as Maybe};
+ghost use Rattle.std.specs.Prelude.{◌≡◌, ℕ, List, IfOk, Some};
 ghost use Rattle.kp_base.specs.declared.ground.Initial.{Initial as Formula};
 ghost use Rattle.kp_base.specs.Entailed.{HaveSameModels};
-ghost use Rattle.kp_outside.specs.Outside.{FileMap};
+ghost use Rattle.kp_outside.specs.Outside.{IsFront, IsWithin};
 ghost use Rattle.kp_primes.specs.Held.{formula};
 ghost use Rattle.kp_run_prepare.specs.Prepared.{IsUsable};
-ghost use Rattle.kp_run.specs.Width.{tells_width, WidthGround};
-ghost use Rattle.kp_run.specs.CommandParts.{AreInputs, IsReadOf};
-ghost use Rattle.kp_run.specs.Contents.{Contents, AreContents};
-ghost use Rattle.kp_run.specs.Outcomes.{ComesBy};
-ghost use Rattle.kp_words.specs.declared.verb.Verb.TheVariants as verbs;
+ghost use Rattle.kp_run.specs.Width.{tells_width, WidthGround, WidthTexts};
+ghost use Rattle.kp_base.specs.Files.{most_bytes};
 
-use crate::inputs::Inputs;
 use crate::outcomes::print_text;
 use kp_base::{Ground, Limits, Memory, Row};
+use kp_outside::Got;
 use kp_relevance::Relevance;
 use kp_run_inputs::settle;
 use kp_run_messages::{over, width_report};
@@ -64,20 +61,16 @@ fn measure(alloc: Global, prepared: &Prepared, bound: u32) -> Result<Outcome, Me
 }
 
 /// What a call for the width comes to on what was read of its files.
-pub fn width_on(alloc: Global, asked: &Asked<'_>, inputs: Inputs) -> Result<Outcome, Memory>
-    requires { (held : Maybe FileMap) × IsReadOf held verbs.Width asked.now inputs }
-    ensures { (held : Maybe FileMap) (t : Contents) → AreContents held verbs.Width asked.now t → AreInputs t inputs → IfOk result (ComesBy verbs.Width asked.now t) }
+pub fn width_on(
+    alloc: Global,
+    asked: &Asked<'_>,
+    domain: Got,
+    problem: Got,
+) -> Result<Outcome, Memory>
+    requires domain { IsWithin most_bytes domain }
+    requires problem { IsWithin most_bytes problem }
+    ensures { (x y : List ℕ) → IsFront (Some x) most_bytes domain → IsFront (Some y) most_bytes problem → IfOk result (WidthTexts asked.now x y) }
 {
-    let Inputs {
-        domain,
-        problem,
-        merges,
-        plan,
-        written,
-    } = inputs;
-    drop(merges);
-    drop(plan);
-    drop(written);
     match prepare(alloc, asked.implicates, domain, problem) {
         Ok(prepared) => measure(alloc, &prepared, asked.bound),
         Err(early) => settle(early),

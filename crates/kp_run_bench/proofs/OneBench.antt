@@ -26,6 +26,7 @@ use Rattle.kp_run_messages.specs.Refusals.{nothing}
 use Rattle.kp_run_messages.specs.Searches.{no_plan_text}
 use Rattle.kp_run_outcome.specs.declared.outcome.Outcome.{Outcome}
 use Rattle.kp_words.specs.Asked.{of_mode, Asked}
+use Rattle.kp_words.specs.Options.{usual_limit}
 use Rattle.kp_run_prepare.specs.Refusing.{refuses}
 use Rattle.kp_run_prepare.specs.Prepared.{usual, IsPrepared, Comes, early, later}
 use Rattle.kp_run_prepare.proofs.Public.{comes_to_one_outcome}
@@ -34,7 +35,7 @@ use Rattle.kp_ktask.proofs.Public.{task_refused_once, task_refused_or_within}
 use Rattle.kp_run_solve.specs.Operators.{acts_among}
 use Rattle.kp_run_outcome.specs.Printing.{prints, denies}
 use Rattle.kp_run_bench.specs.Summary.{summary_text}
-use Rattle.kp_run_bench.specs.Bench.{texts_of, usual_implicates, SumsUp, TellsBench, BenchesGround, over, searched, BenchesTrees}
+use Rattle.kp_run_bench.specs.Bench.{texts_of, SumsUp, TellsBench, BenchesGround, over, searched, BenchesTrees}
 use Rattle.kp_run_bench.specs.Laws.{BenchesHaveOneOutcome}
 
 -- ---- the actions of a plan
@@ -86,13 +87,13 @@ ground_once c g i some table o u (searched x a finds tells) (searched y b finds'
 abbrev Fine : Asked → Domain Word → Problem Word → Outcome → Type 0
 Fine c d p o = HasNoFault d p × BenchesTrees c d p o
 
-trees_once : (c : Asked) (d : Domain Word) (p : Problem Word) (o u : Outcome) → IsPrepared usual_implicates d p → Fine c d p o → Fine c d p u → o ≡ u
+trees_once : (c : Asked) (d : Domain Word) (p : Problem Word) (o u : Outcome) → IsPrepared usual_limit d p → Fine c d p o → Fine c d p u → o ≡ u
 trees_once c d p o u ready a b =
     let some : HasModel (initial_of d p) = (initial_states_are_models d p a.0).0 ready.started.initial in
     by_table_one_outcome (ground_of d p) (initial_of d p) (of_mode c.mode) [] (BenchesGround c (ground_of d p) (initial_of d p)) (ground_once c (ground_of d p) (initial_of d p) some) o u a.1 b.1
 
 -- the trees of two texts are such ones
-fine : (c : Asked) (x y : List ℕ) (o : Outcome) → Comes usual_implicates x y (BenchesTrees c) o → Comes usual_implicates x y (Fine c) o
+fine : (c : Asked) (x y : List ℕ) (o : Outcome) → Comes usual_limit x y (BenchesTrees c) o → Comes usual_limit x y (Fine c) o
 fine c x y o (early a) = early a
 fine c x y o (later d p trees ready goes) = later d p trees ready (trees.no_fault, goes)
 
@@ -100,4 +101,4 @@ pub benches_once : BenchesHaveOneOutcome
 benches_once c o u a b =
     let x = (texts_of c).domain in
     let y = (texts_of c).problem in
-    comes_to_one_outcome usual_implicates x y (Fine c) (trees_once c) o u (fine c x y o a) (fine c x y u b)
+    comes_to_one_outcome usual_limit x y (Fine c) (trees_once c) o u (fine c x y o a) (fine c x y u b)

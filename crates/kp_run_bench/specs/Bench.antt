@@ -25,6 +25,7 @@ use Rattle.kp_run_outcome.specs.Printing.{prints}
 use Rattle.kp_words.specs.declared.source.Family.{Family}
 use Rattle.kp_words.specs.declared.source.Family.TheVariants as families
 use Rattle.kp_words.specs.Asked.{of_mode, Asked}
+use Rattle.kp_words.specs.Options.{usual_limit}
 use Rattle.kp_run_prepare.specs.Refusing.{refuses}
 use Rattle.kp_run_prepare.specs.Prepared.{usual, Comes}
 use Rattle.kp_run_inputs.specs.SourceTables.{ComesByTable}
@@ -41,10 +42,6 @@ family_texts families.Bombs n = bombs_texts n
 -- those that a run is about
 abbrev pub texts_of : Asked → Texts
 texts_of c = family_texts c.family c.size
-
--- how many prime implicates a prefix of the initial clauses may have
-abbrev pub usual_implicates : ℕ
-usual_implicates = 20000
 
 -- ---- what is told
 
@@ -76,4 +73,4 @@ BenchesTrees c d p o = ComesByTable (ground_of d p) (initial_of d p) (of_mode c.
 
 -- and the two texts of the run's family and size
 abbrev pub Benches : Asked → Outcome → Type 0
-Benches c o = Comes usual_implicates (texts_of c).domain (texts_of c).problem (BenchesTrees c) o
+Benches c o = Comes usual_limit (texts_of c).domain (texts_of c).problem (BenchesTrees c) o

@@ -12,16 +12,16 @@ use Rattle.kp_classic.specs.Steps.{start, succeeds}
 use Rattle.kp_law_ktask.specs.Writable.{IsWritableTask}
 use Rattle.kp_law_translation.specs.OfTrees.{ground_of, initial_of}
 use Rattle.kp_words.specs.Asked.{of_mode}
+use Rattle.kp_words.specs.Options.{usual_limit}
 use Rattle.kp_run_prepare.specs.declared.prepared.Prepared.{Prepared as Made}
 use Rattle.kp_run_prepare.specs.Prepared.{IsPreparedOf}
 use Rattle.kp_run_inputs.specs.SourceTables.{HasTable}
-use Rattle.kp_run_bench.specs.Bench.{usual_implicates}
 
 -- a ground problem and its prime implicates are those of two texts, and this is the table that the mode has for their trees
 pub record IsPreparedWithTable (mode : Mode) (x : Made) (table : TagTable) : Type 0 where
   pub domain : List ℕ
   pub problem : List ℕ
-  pub given : IsPreparedOf usual_implicates domain problem x
+  pub given : IsPreparedOf usual_limit domain problem x
   pub has_table : HasTable (ground_of given.first given.second) (initial_of given.first given.second) (of_mode mode) [] table
 
 -- the task of a ground problem and a table can be written, the table is right, its merges are valid, and nothing clashes

@@ -7,11 +7,11 @@ ghost use Rattle.kp_search.specs.declared.found.Found.{Found};
 ghost use Rattle.kp_law_ktask.specs.Task.{task_of};
 ghost use Rattle.kp_ktask.specs.Translated.{FitsLimits};
 ghost use Rattle.kp_words.specs.Asked.{of_mode};
-ghost use Rattle.kp_words.specs.Options.{IsOfRange};
+ghost use Rattle.kp_words.specs.Options.{IsOfRange, usual_limit};
 ghost use Rattle.kp_run_prepare.specs.Prepared.{usual, Comes, IsPreparedOf, IsUsable};
 ghost use Rattle.kp_run_inputs.specs.SourceTables.{ComesByTable};
 ghost use Rattle.kp_run_solve.specs.Solving.{Finds};
-ghost use Rattle.kp_run_bench.specs.Bench.{usual_implicates, TellsBench, BenchesGround, BenchesTrees, Benches};
+ghost use Rattle.kp_run_bench.specs.Bench.{TellsBench, BenchesGround, BenchesTrees, Benches};
 ghost use Rattle.kp_run_bench.specs.Working.{IsPreparedWithTable, IsSafe};
 
 use crate::telling::tell_found;
@@ -24,7 +24,7 @@ use kp_run_inputs::{Origin, settle, table_of};
 use kp_run_outcome::Outcome;
 use kp_run_prepare::{Prepared, prepare, refuse};
 use kp_run_solve::find;
-use kp_words::Asked;
+use kp_words::{Asked, USUAL_LIMIT};
 use std::alloc::Global;
 
 // What a run comes to on the task of a table, which is within the limits.
@@ -70,7 +70,7 @@ fn bench_table(
 // What a run comes to on a ground problem without a clash.
 fn bench_ground(alloc: Global, command: &Asked<'_>, prepared: &Prepared) -> Result<Outcome, Memory>
     requires usable { IsUsable prepared.now }
-    requires given { (d : List ℕ) × (p : List ℕ) × IsPreparedOf usual_implicates d p prepared.now }
+    requires given { (d : List ℕ) × (p : List ℕ) × IsPreparedOf usual_limit d p prepared.now }
     ensures { (i : Formula) → HaveSameModels (formula prepared.now.primes) i → IfOk result (ComesByTable prepared.now.ground i (of_mode command.now.mode) [] (BenchesGround command.now prepared.now.ground i)) }
 {
     let relevance = Relevance::of(alloc, &prepared.ground)?;
@@ -82,9 +82,14 @@ fn bench_ground(alloc: Global, command: &Asked<'_>, prepared: &Prepared) -> Resu
 
 // What a run comes to on two texts.
 fn bench_texts(alloc: Global, command: &Asked<'_>, texts: Texts) -> Result<Outcome, Memory>
-    ensures { IfOk result (Comes usual_implicates texts.domain texts.problem (BenchesTrees command.now)) }
+    ensures { IfOk result (Comes usual_limit texts.domain texts.problem (BenchesTrees command.now)) }
 {
-    match prepare(alloc, 20_000, front(texts.domain), front(texts.problem)) {
+    match prepare(
+        alloc,
+        USUAL_LIMIT,
+        front(texts.domain),
+        front(texts.problem),
+    ) {
         Ok(prepared) => bench_ground(alloc, command, &prepared),
         Err(early) => settle(early),
     }

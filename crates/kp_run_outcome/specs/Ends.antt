@@ -1,13 +1,11 @@
 -- How a command ends: what is held and was told afterwards, and which counts of faults rose.
 use Rattle.std.specs.Prelude.{◌≡◌, ◌≢◌, List, [], ◌∷◌, ◌++◌, ℕ, Option, Some, None, map, length, Result, Err, IsErrOf}
 use Rattle.std.specs.FinMap.{get}
-use Rattle.kp_base.specs.Files.{most_bytes}
-use Rattle.kp_outside.specs.declared.outside.Got.{Got}
 use Rattle.kp_outside.specs.declared.outside.Shelf.{Ghosts as Shelf}
 use Rattle.kp_outside.specs.declared.outside.Sink.{Ghosts as Sink}
 use Rattle.kp_outside.specs.declared.outside.OutsideStop.{OutsideStop}
 use Rattle.kp_outside.specs.declared.outside.OutsideStop.TheVariants as stops
-use Rattle.kp_outside.specs.Outside.{FileMap, Rises, AddsFront, IsFront, with_file, without_file, with_bytes}
+use Rattle.kp_outside.specs.Outside.{FileMap, Rises, AddsFront, with_file, without_file, with_bytes}
 use Rattle.kp_run_outcome.specs.declared.outcome.FilePut.{FilePut}
 use Rattle.kp_run_outcome.specs.declared.outcome.Outcome.{Outcome}
 use Rattle.kp_run_outcome.specs.declared.status.Status.{Status}
@@ -101,17 +99,6 @@ IsAnswer status.ReadFault = ⊥
 IsAnswer status.WriteFault = ⊥
 IsAnswer status.Memory = ⊥
 IsAnswer _ = Unit {0}
-
--- what was read of files with these contents
-pub data AreFronts : List (List ℕ) → List Got → Type 0 where
-  none : AreFronts [] []
-  also : (text : List ℕ) (texts : List (List ℕ)) (got : Got) (gots : List Got) → IsFront (Some text) most_bytes got → AreFronts texts gots → AreFronts (text ∷ texts) (got ∷ gots)
-
--- the files with these names were read: these are the first bytes of their contents
-pub record AreRead (held : Option FileMap) (names : List (List ℕ)) (gots : List Got) : Type 0 where
-  pub texts : List (List ℕ)
-  pub are_held : AreHeld held names texts
-  pub are_fronts : AreFronts texts gots
 
 -- A call that only reads from a shelf: what is held stands, and so do the counts of failed puts. Where a get failed, it is told how; else the counts of failed gets stand, too.
 pub record OnlyReads {S T : Type 0} (s : Shelf S) (old new : S) (fails : Option FileMap → (List ℕ → ℕ) → (List ℕ → ℕ) → Type 0) (result : Result T OutsideStop) : Type 0 where

@@ -3,11 +3,9 @@
 #![tactic(auto)]
 
 mod carry;
-mod inputs;
 mod outcome;
 mod status;
 
 pub use carry::{carry_out, stopped};
-pub use inputs::read_inputs;
 pub use outcome::{FilePut, Outcome};
 pub use status::Status;

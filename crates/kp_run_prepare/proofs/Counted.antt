@@ -11,7 +11,7 @@ use Rattle.kp_base.specs.Implicates.{IsOfItsAtoms}
 use Rattle.kp_base.proofs.Lists.{member_at}
 use Rattle.kp_names_semantics.specs.Numbered.{Lifted}
 use Rattle.kp_ground_semantics.specs.Ground.{kept_instances, ground_atoms, atom_name, ground_of}
-use Rattle.kp_ground_instances.specs.Counts.{IsWithinLimits}
+use Rattle.kp_ground_joins.specs.Limits.{IsWithinLimits}
 use Rattle.kp_ground.specs.Grounded.{IsGrounded}
 use Rattle.kp_ground.specs.Passes.{action_at}
 use Rattle.kp_ground.proofs.Public.{actions_of_schemas_in_order}

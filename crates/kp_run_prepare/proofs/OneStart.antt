@@ -14,7 +14,7 @@ use Rattle.kp_primes.proofs.Public.{not_more_and_at_most}
 use Rattle.kp_clash.proofs.Public.{first_clash_once}
 use Rattle.kp_names_semantics.specs.Numbered.{Lifted}
 use Rattle.kp_names_semantics.specs.Numbering.{numbered_problem}
-use Rattle.kp_ground_instances.specs.Counts.{IsWithinLimits, RefusesCounts, bindings_over, actions_over, effects_over}
+use Rattle.kp_ground_joins.specs.Limits.{IsWithinLimits, RefusesCounts, bindings_over, actions_over, effects_over}
 use Rattle.kp_ground.specs.Grounded.{IsGrounded, RefusesGround, counts_over, atoms_over}
 use Rattle.kp_law_translation.specs.OfTrees.{ground_of, initial_of}
 use Rattle.kp_run_messages.specs.Refusals.{Nameable, nothing}

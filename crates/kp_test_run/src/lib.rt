@@ -8,9 +8,15 @@ mod benches;
 #[cfg(test)]
 mod checking;
 #[cfg(test)]
+mod each_fault;
+#[cfg(test)]
 mod faults;
 #[cfg(test)]
+mod fronts;
+#[cfg(test)]
 mod implicates;
+#[cfg(test)]
+mod joins;
 #[cfg(test)]
 mod lifting;
 #[cfg(test)]

@@ -24,8 +24,8 @@ fn push_all(alloc: Global, words: &mut Vec<Vec<u8>>, more: &[&str]) -> Result<()
     Ok(())
 }
 
-// These words, with more behind them.
-fn words_of(alloc: Global, front: &[&str], more: &[&str]) -> Result<Vec<Vec<u8>>, Memory> {
+/// These words, with more behind them.
+pub fn words_of(alloc: Global, front: &[&str], more: &[&str]) -> Result<Vec<Vec<u8>>, Memory> {
     let mut words = Vec::new(alloc);
     push_all(alloc, &mut words, front)?;
     push_all(alloc, &mut words, more)?;

@@ -8,10 +8,10 @@ use std::test::Fail;
 // The goal asks for what the only action takes away.
 const BOTH: &str = "(define (problem e) (:domain d) (:init (p)) (:goal (and (p) (q))))";
 
-const WRITTEN_DOMAIN: &str =
+pub const WRITTEN_DOMAIN: &str =
     "(define (domain kplan)\n(:requirements :strips :negative-preconditions :conditional-effects)\n(:predicates\n(kp_-p_-0)\n(kn_-p_-0)\n(kp_-q_-0)\n(kn_-q_-0)\n)\n(:action do_-a\n:parameters ()\n:precondition (and (kp_-p_-0))\n:effect (and\n(kp_-q_-0)\n(not (kn_-q_-0))\n(kn_-p_-0)\n(not (kp_-p_-0))\n)\n)\n)\n";
 
-const WRITTEN_PROBLEM: &str =
+pub const WRITTEN_PROBLEM: &str =
     "(define (problem kplan)\n(:domain kplan)\n(:init\n(kp_-p_-0)\n(kn_-q_-0)\n)\n(:goal (and\n(kp_-q_-0)\n))\n)\n";
 
 // Calls to solve by what is said behind their names, with the number they end with and what they print.

@@ -1,5 +1,5 @@
 -- Words behind that of a command that say nothing of it.
-use Rattle.std.proofs.Common.{◌≡◌, ◌∙◌, List, [], ◌∷◌, ℕ, Option, codes, length, subst, Result, Ok, Err, IfErr, IsErrAnd, sym, ap, refl, Some, MatchOption}
+use Rattle.std.proofs.Common.{◌≡◌, ◌∙◌, List, [], ◌∷◌, ℕ, Option, codes, length, subst, Result, Ok, Err, IfErr, IsErrAnd, sym, Some, MatchOption}
 use Rattle.kp_words_options.specs.Words.{Line}
 use Rattle.kp_words_options.proofs.Public.{words_are_one_line}
 use Rattle.kp_words_options.specs.declared.stop.WordStop.{WordStop}
@@ -43,7 +43,7 @@ when_some o x N P h e = subst (λ p. MatchOption p N P) e h
 
 -- the size of one is in its range
 pub bench_is_sized : (words : Texts) (c : Asked) → AreWords words c → c.verb ≡ verbs.Bench → IsOfRange 2 100 c.size
-bench_is_sized words c are bench = let a = subst (λ v. AreOf v are.behind.places are.behind.values c) bench are.behind.are_of in go are.behind.places a.as_many a.are_asked.size
+bench_is_sized words c are bench = let a = subst (λ v. AreOf v are.behind.places are.behind.values c) bench are.behind.are_of in go are.behind.places a.as_many a.are_asked.generated.size
   where
     go : (places : Texts) → length places ≡ 2 → SaysSize (place_in verbs.Bench places (codes "N")) c.size → IsOfRange 2 100 c.size
     go [] e says = absurd cc
@@ -55,7 +55,7 @@ bench_is_sized words c are bench = let a = subst (λ v. AreOf v are.behind.place
 
 -- the names of the two files that one writes differ
 pub outputs_differ : (words : Texts) (c : Asked) → AreWords words c → c.verb ≡ verbs.Translate → (c.domain_out ≡ c.problem_out) → ⊥
-outputs_differ words c are translate = let a = subst (λ v. AreOf v are.behind.places are.behind.values c) translate are.behind.are_of in go are.behind.places a.as_many a.are_asked.domain_out a.are_asked.problem_out a.are_asked.outputs_differ
+outputs_differ words c are translate = let a = subst (λ v. AreOf v are.behind.places are.behind.values c) translate are.behind.are_of in go are.behind.places a.as_many a.are_asked.files.domain_out a.are_asked.files.problem_out a.are_asked.files.outputs_differ
   where
     go : (places : Texts) → length places ≡ 4 → c.domain_out ≡ said (place_in verbs.Translate places (codes "OD")) → c.problem_out ≡ said (place_in verbs.Translate places (codes "OP")) → AreApart (place_in verbs.Translate places (codes "OD")) (place_in verbs.Translate places (codes "OP")) → c.domain_out ≡ c.problem_out → ⊥
     go [] e first second apart same = absurd cc

@@ -1,5 +1,5 @@
 -- Words are a command, or none.
-use Rattle.std.proofs.Common.{◌≡◌, ◌≢◌, ◌∙◌, ◌⊎◌, ◌<◌, ◌≤◌, inl, inr, refl, sym, subst, ap, ℕ, List, [], ◌∷◌, Option, Some, None, MatchOption, map, length, nat_eq, codes, arith}
+use Rattle.std.proofs.Common.{◌≡◌, ◌∙◌, inl, inr, refl, sym, subst, ap, ℕ, List, [], ◌∷◌, Option, map, length, codes, arith}
 use Rattle.std.specs.Str.{is_utf8, IsUtf8}
 use Rattle.std.proofs.lemmas.Bool.{cases_lt}
 use Rattle.std.proofs.lemmas.Str.{IsUtf8-from_is_utf8, is_utf8-from_IsUtf8}
@@ -9,25 +9,17 @@ use Rattle.kp_words.specs.declared.source.Family.{Family}
 use Rattle.kp_words.specs.declared.verb.Verb.{Verb}
 use Rattle.kp_base.specs.declared.limits.Mode.{Mode}
 use Rattle.kp_words.specs.Asked.{Asked}
-use Rattle.kp_words.specs.Forms.{form, verb_named}
+use Rattle.kp_words.specs.Forms.{form, all_verbs}
 use Rattle.kp_words.specs.Options.{SaysFamily, SaysSize, SaysMode, SaysLimit, SaysBudget, SaysBound, AreApart, AreNotBoth}
 use Rattle.kp_words.specs.Command.{said, place_in, value_in, AreAsked, AreOf, Behind, AreUtf8, AreWords}
 use Rattle.kp_words.specs.Laws.{WordsAreDecided}
 use Rattle.kp_words.proofs.Calls.{of_line}
-use Rattle.kp_words.proofs.Decisions.{Decided, both, by_test, like, mode_decided, not_both_decided, limit_decided, budget_decided, bound_decided, family_decided, size_decided, apart_decided}
-use Rattle.kp_words.proofs.Fitting.{are_names}
-use Rattle.kp_words.proofs.Verbs.{verb_word, behind_it, verb_named_is}
+use Rattle.kp_words.proofs.Decisions.{Decided, named_decided, both, by_test, like, mode_decided, not_both_decided, limit_decided, budget_decided, bound_decided, family_decided, size_decided, apart_decided}
+use Rattle.kp_words.proofs.Fitting.{are_names, found}
+use Rattle.kp_words.proofs.Verbs.{verb_word, behind_it}
 
 abbrev Texts : Type 0
 Texts = List (List ℕ)
-
--- a word is that of some command
-verb_decided : (word : List ℕ) → Decided ((v : Verb) × (word ≡ verb_word v))
-verb_decided word = by (verb_named word) (verb_named_is word)
-  where
-    by : (o : Option Verb) → MatchOption o ((v : Verb) → word ≢ verb_word v) (λ v. word ≡ verb_word v) → Decided ((v : Verb) × (word ≡ verb_word v))
-    by (Some v) is = inl (v, is)
-    by None none = inr (λ h. none h.0 h.1)
 
 -- ---- what is said under names asks for something, or for nothing
 
@@ -70,11 +62,20 @@ module _ (place value : List ℕ → Option (List ℕ)) where
       size = size.0;
     },
     refl,
-    record { domain = refl; problem = refl; plan = refl; written = refl; domain_out = refl; problem_out = refl; outputs_differ = apart; family = family.1; size = size.1; mode = mode.1; merges = refl; one_source = alone; implicates = limit.1; budget = budget.1; bound = bound.1; classical = refl },
+    record {
+      files = record { domain = refl; problem = refl; plan = refl; written = refl; domain_out = refl; problem_out = refl; outputs_differ = apart; classical = refl };
+      source = record { mode = mode.1; merges = refl; one_source = alone };
+      numbers = record { implicates = limit.1; budget = budget.1; bound = bound.1 };
+      generated = record { family = family.1; size = size.1 };
+    },
   )
 
   back : (c : Asked) → AreAsked place value c → (Outputs × Generated) × (Tags × Bounds)
-  back c a = ((a.outputs_differ, ((c.family, a.family), (c.size, a.size))), ((((c.mode, a.mode), a.one_source), (c.implicates, a.implicates)), ((c.budget, a.budget), (c.bound, a.bound))))
+  back c a =
+      let g = a.generated in
+      let s = a.source in
+      let n = a.numbers in
+      ((a.files.outputs_differ, ((c.family, g.family), (c.size, g.size))), ((((c.mode, s.mode), s.one_source), (c.implicates, n.implicates)), ((c.budget, n.budget), (c.bound, n.bound))))
 
   pub asked_decided : (v : Verb) → Decided ((c : Asked) × (c.verb ≡ v) × AreAsked place value c)
   asked_decided v = like _ _ (asked_of v) (λ h. back h.0 h.2) parts_decided
@@ -113,7 +114,7 @@ words_are v word rest c e same behind = record { rest = rest; are = ap (λ w. w 
 
 read_decided : (words : Texts) → Decided ((c : Asked) × AreWords words c)
 read_decided [] = inr (λ h. let e = h.1.are in absurd cc)
-read_decided (word ∷ rest) = elim (verb_decided word) [
+read_decided (word ∷ rest) = elim (named_decided verb_word all_verbs found word) [
   | inl v ↦ like _ _ (λ h. (h.0, words_are v.0 word rest h.0 v.1 h.1 h.2)) (λ h. let b = behind_it v.0 rest (word ∷ rest) h.0 (ap (λ w. w ∷ rest) v.1) h.1 in (h.0, b.0, b.1)) (behind_decided v.0 rest)
   | inr none ↦ inr (λ h. let e = h.1.are in none (h.0.verb, let same : word ≡ verb_word h.0.verb = cc in same))
 ]

@@ -1,12 +1,13 @@
 -- What a word is and what the value of an option says is decided by tests.
-use Rattle.std.proofs.Common.{◌≡◌, ◌≢◌, ◌⊎◌, ◌<◌, ◌≤◌, inl, inr, refl, sym, ap, subst, ◌∙◌, ℕ, zero, suc, Bool, true, List, Option, Some, None, codes, decimal, bytes_eq, arith}
+use Rattle.std.proofs.Common.{◌≡◌, ◌≢◌, ◌⊎◌, ◌<◌, ◌≤◌, inl, inr, refl, sym, subst, ◌∙◌, ℕ, zero, suc, Bool, true, List, Option, Some, None, MatchOption, decimal, bytes_eq, arith}
+use Rattle.std.specs.List.{find}
 use Rattle.std.proofs.lemmas.Bool.{cases_lt, cases_Bool, false≢true}
 use Rattle.std.proofs.lemmas.Slice.Eq.{bytes_eq-Decides}
 use Rattle.kp_base.specs.declared.limits.Mode.{Mode}
-use Rattle.kp_base.specs.declared.limits.Mode.TheVariants as modes
 use Rattle.kp_words.specs.declared.source.Family.{Family}
-use Rattle.kp_words.specs.declared.source.Family.TheVariants as families
-use Rattle.kp_words.specs.Options.{IsOfRange, SaysNumber, SaysLimit, SaysBudget, SaysBound, SaysMode, SaysFamily, SaysSize, AreApart, AreNotBoth, mode_word, family_word}
+use Rattle.kp_words.specs.Options.{IsOfRange, SaysNumber, SaysLimit, SaysBudget, SaysBound, SaysMode, SaysFamily, SaysSize, AreApart, AreNotBoth, mode_word, family_word, usual_limit, usual_budget, usual_bound, usual_mode, no_family, no_size}
+use Rattle.kp_words.proofs.Named.{named_is}
+use Rattle.kp_words.proofs.SaidOnce.{all_modes, mode_again, all_families, family_again}
 
 -- ---- what is decided
 
@@ -74,69 +75,34 @@ number_decided least most usual None = inl (usual, refl)
 number_decided least most usual (Some word) = within_decided least most word
 
 pub limit_decided : (value : Option (List ℕ)) → Decided ((n : ℕ) × SaysLimit value n)
-limit_decided = number_decided 1 100000 20000
+limit_decided = number_decided 1 100000 usual_limit
 
 pub budget_decided : (value : Option (List ℕ)) → Decided ((n : ℕ) × SaysBudget value n)
-budget_decided = number_decided 1 1000000 10000
+budget_decided = number_decided 1 1000000 usual_budget
 
 pub bound_decided : (value : Option (List ℕ)) → Decided ((n : ℕ) × SaysBound value n)
-bound_decided = number_decided 0 8 3
+bound_decided = number_decided 0 8 usual_bound
 
 pub size_decided : (word : Option (List ℕ)) → Decided ((n : ℕ) × SaysSize word n)
-size_decided = number_decided 2 100 0
+size_decided = number_decided 2 100 no_size
 
 -- ---- modes, sources and families
 
--- a word is that of some mode
-word_of_mode : (word : List ℕ) → Decided ((m : Mode) × (word ≡ mode_word m))
-word_of_mode word = elim (same_word word (codes "k0")) [
-  | inl e ↦ inl (modes.K0, e)
-  | inr a ↦ elim (same_word word (codes "k1")) [
-    | inl e ↦ inl (modes.K1, e)
-    | inr b ↦ elim (same_word word (codes "k2")) [
-      | inl e ↦ inl (modes.K2, e)
-      | inr c ↦ elim (same_word word (codes "k3")) [
-        | inl e ↦ inl (modes.K3, e)
-        | inr d ↦ elim (same_word word (codes "models")) [
-          | inl e ↦ inl (modes.Models, e)
-          | inr f ↦ elim (same_word word (codes "auto")) [
-            | inl e ↦ inl (modes.Auto, e)
-            | inr g ↦ inr (λ h. none a b c d f g h.0 h.1)
-          ]
-        ]
-      ]
-    ]
-  ]
-]
+-- a word is that of one of these, each of which is found by its own
+pub named_decided : {X : Type 0} (word : X → List ℕ) (all : List X) → ((x : X) → find (λ y. bytes_eq (word x) (word y)) all ≡ Some x) → (w : List ℕ) → Decided ((x : X) × (w ≡ word x))
+named_decided {X} word all again w = by (find (λ y. bytes_eq w (word y)) all) (named_is word all again w)
   where
-    none : word ≢ codes "k0" → word ≢ codes "k1" → word ≢ codes "k2" → word ≢ codes "k3" → word ≢ codes "models" → word ≢ codes "auto" → (m : Mode) → word ≡ mode_word m → ⊥
-    none a b c d f g modes.K0 e = a e
-    none a b c d f g modes.K1 e = b e
-    none a b c d f g modes.K2 e = c e
-    none a b c d f g modes.K3 e = d e
-    none a b c d f g modes.Models e = f e
-    none a b c d f g modes.Auto e = g e
+    by : (o : Option X) → MatchOption o ((x : X) → w ≢ word x) (λ x. w ≡ word x) → Decided ((x : X) × (w ≡ word x))
+    by (Some x) is = inl (x, is)
+    by None none = inr (λ h. none h.0 h.1)
 
 pub mode_decided : (value : Option (List ℕ)) → Decided ((m : Mode) × SaysMode value m)
-mode_decided None = inl (modes.K1, refl)
-mode_decided (Some word) = word_of_mode word
-
-word_of_family : (word : List ℕ) → Decided ((f : Family) × (word ≡ family_word f))
-word_of_family word = elim (same_word word (codes "line")) [
-  | inl e ↦ inl (families.Line, e)
-  | inr a ↦ elim (same_word word (codes "bombs")) [
-    | inl e ↦ inl (families.Bombs, e)
-    | inr b ↦ inr (λ h. none a b h.0 h.1)
-  ]
-]
-  where
-    none : word ≢ codes "line" → word ≢ codes "bombs" → (f : Family) → word ≡ family_word f → ⊥
-    none a b families.Line e = a e
-    none a b families.Bombs e = b e
+mode_decided None = inl (usual_mode, refl)
+mode_decided (Some word) = named_decided mode_word all_modes mode_again word
 
 pub family_decided : (word : Option (List ℕ)) → Decided ((f : Family) × SaysFamily word f)
-family_decided None = inl (families.Line, refl)
-family_decided (Some word) = word_of_family word
+family_decided None = inl (no_family, refl)
+family_decided (Some word) = named_decided family_word all_families family_again word
 
 -- ---- names
 

@@ -1,14 +1,12 @@
 -- A command has what its words say, and of all else nothing is said.
-use Rattle.std.proofs.Common.{◌≡◌, ◌∙◌, ℕ, Bool, true, false, List, [], Option, Some, None, codes, map, if◌then◌else◌, refl, sym, subst}
+use Rattle.std.proofs.Common.{◌≡◌, ℕ, Bool, true, false, List, [], Option, Some, None, codes, map, if◌then◌else◌, refl, sym, subst}
 use Rattle.kp_base.specs.declared.limits.Mode.{Mode}
-use Rattle.kp_base.specs.declared.limits.Mode.TheVariants as modes
 use Rattle.kp_words_options.specs.Words.{has_text}
 use Rattle.kp_words.specs.declared.source.Family.{Family}
-use Rattle.kp_words.specs.declared.source.Family.TheVariants as families
 use Rattle.kp_words.specs.declared.verb.Verb.{Verb}
 use Rattle.kp_words.specs.Asked.{Asked}
 use Rattle.kp_words.specs.Forms.{form}
-use Rattle.kp_words.specs.Options.{SaysMode, SaysLimit, SaysBudget, SaysBound, SaysFamily, SaysSize, AreNotBoth}
+use Rattle.kp_words.specs.Options.{SaysMode, SaysLimit, SaysBudget, SaysBound, SaysFamily, SaysSize, AreNotBoth, usual_limit, usual_budget, usual_bound, usual_mode, no_family, no_size}
 use Rattle.kp_words.specs.Command.{said, place_in, value_in, AreOf}
 use Rattle.kp_words.specs.Owned.{kept, mode_beside}
 use Rattle.kp_words.proofs.Lookups.{absent}
@@ -33,27 +31,27 @@ module _ (v : Verb) (places : List (List ℕ)) (values : List (Option (List ℕ)
   pub is_kept : c ≡ kept v c
   unfolding making
   is_kept =
-      let e0 = placed (λ o x. x ≡ said o) [] (codes "D") c.domain (λ e. e) a.are_asked.domain in
-      let e1 = placed (λ o x. x ≡ said o) [] (codes "P") c.problem (λ e. e) a.are_asked.problem in
-      let e2 = placed (λ o x. x ≡ said o) [] (codes "PLAN") c.plan (λ e. e) a.are_asked.plan in
-      let e3 = placed (λ o x. x ≡ said o) [] (codes "T") c.written (λ e. e) a.are_asked.written in
-      let e4 = placed (λ o x. x ≡ said o) [] (codes "OD") c.domain_out (λ e. e) a.are_asked.domain_out in
-      let e5 = placed (λ o x. x ≡ said o) [] (codes "OP") c.problem_out (λ e. e) a.are_asked.problem_out in
-      let e6 = valued SaysMode modes.K1 (codes "mode") c.mode (λ e. e) a.are_asked.mode in
-      let e7 = valued (λ o x. x ≡ o) None (codes "merges") c.merges (λ e. e) a.are_asked.merges in
-      let e8 = valued SaysLimit 20000 (codes "implicates") c.implicates (λ e. e) a.are_asked.implicates in
-      let e9 = valued SaysBudget 10000 (codes "budget") c.budget (λ e. e) a.are_asked.budget in
-      let e10 = valued SaysBound 3 (codes "bound") c.bound (λ e. e) a.are_asked.bound in
-      let e11 = valued (λ o x. x ≡ o) None (codes "classical") c.classical (λ e. e) a.are_asked.classical in
-      let e12 = placed SaysFamily families.Line (codes "FAMILY") c.family (λ e. e) a.are_asked.family in
-      let e13 = placed SaysSize 0 (codes "N") c.size (λ e. e) a.are_asked.size in
+      let e0 = placed (λ o x. x ≡ said o) [] (codes "D") c.domain (λ e. e) a.are_asked.files.domain in
+      let e1 = placed (λ o x. x ≡ said o) [] (codes "P") c.problem (λ e. e) a.are_asked.files.problem in
+      let e2 = placed (λ o x. x ≡ said o) [] (codes "PLAN") c.plan (λ e. e) a.are_asked.files.plan in
+      let e3 = placed (λ o x. x ≡ said o) [] (codes "T") c.written (λ e. e) a.are_asked.files.written in
+      let e4 = placed (λ o x. x ≡ said o) [] (codes "OD") c.domain_out (λ e. e) a.are_asked.files.domain_out in
+      let e5 = placed (λ o x. x ≡ said o) [] (codes "OP") c.problem_out (λ e. e) a.are_asked.files.problem_out in
+      let e6 = valued SaysMode usual_mode (codes "mode") c.mode (λ e. e) a.are_asked.source.mode in
+      let e7 = valued (λ o x. x ≡ o) None (codes "merges") c.merges (λ e. e) a.are_asked.source.merges in
+      let e8 = valued SaysLimit usual_limit (codes "implicates") c.implicates (λ e. e) a.are_asked.numbers.implicates in
+      let e9 = valued SaysBudget usual_budget (codes "budget") c.budget (λ e. e) a.are_asked.numbers.budget in
+      let e10 = valued SaysBound usual_bound (codes "bound") c.bound (λ e. e) a.are_asked.numbers.bound in
+      let e11 = valued (λ o x. x ≡ o) None (codes "classical") c.classical (λ e. e) a.are_asked.files.classical in
+      let e12 = placed SaysFamily no_family (codes "FAMILY") c.family (λ e. e) a.are_asked.generated.family in
+      let e13 = placed SaysSize no_size (codes "N") c.size (λ e. e) a.are_asked.generated.size in
       let same : making c.verb c.domain c.problem c.plan c.written c.domain_out c.problem_out c.mode c.merges c.implicates c.budget c.bound c.classical c.family c.size
       ≡ making v (kept v c).domain (kept v c).problem (kept v c).plan (kept v c).written (kept v c).domain_out (kept v c).problem_out (kept v c).mode (kept v c).merges (kept v c).implicates (kept v c).budget (kept v c).bound (kept v c).classical (kept v c).family (kept v c).size = cc in
       same
 
   -- where a file of merges is named, no mode is said
   pub usual_beside_file : c.mode ≡ mode_beside c.merges c.mode
-  usual_beside_file = by c.merges (value_in v values (codes "mode")) a.are_asked.mode (subst (AreNotBoth (value_in v values (codes "mode"))) (sym a.are_asked.merges) a.are_asked.one_source)
+  usual_beside_file = by c.merges (value_in v values (codes "mode")) a.are_asked.source.mode (subst (AreNotBoth (value_in v values (codes "mode"))) (sym a.are_asked.source.merges) a.are_asked.source.one_source)
     where
       by : (m o : Option (List ℕ)) → SaysMode o c.mode → AreNotBoth o m → c.mode ≡ mode_beside m c.mode
       by None o says alone = refl

@@ -4,7 +4,6 @@ pub mod Numbers
 pub mod Named
 pub mod Lookups
 pub mod Kept
-pub mod Inputs
 pub mod Fitting
 pub mod Calls
 pub mod Verbs
@@ -12,5 +11,6 @@ pub mod SaidOnce
 pub mod OneCommand
 pub mod Decisions
 pub mod Decided
+pub mod Saying
 pub mod Examples
 pub mod Refusals

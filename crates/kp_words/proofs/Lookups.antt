@@ -1,9 +1,12 @@
 -- What stands under a name.
-use Rattle.std.proofs.Common.{◌≡◌, ◌∙◌, ◌<◌, ℕ, zero, suc, Bool, true, false, List, [], ◌∷◌, Option, Some, None, bytes_eq, if◌then◌else◌, drop, map, length, get_or, slice_get, refl, sym, ap, arith}
+use Rattle.std.proofs.Common.{◌≡◌, ◌∙◌, ◌<◌, ℕ, zero, suc, Bool, true, false, List, [], ◌∷◌, Option, Some, None, bytes_eq, drop, map, length, get_or, refl, sym, arith}
 use Rattle.std.specs.Borrow.{Bor}
 use Rattle.kp_words_options.specs.Texts.{texts}
 use Rattle.kp_words_options.specs.Words.{has_text}
+use Rattle.kp_base.specs.declared.limits.Mode.{Mode}
+use Rattle.kp_words.specs.Asked.{source_by}
 use Rattle.kp_words.specs.Forms.{value_at}
+use Rattle.kp_words.specs.Command.{file_of}
 
 -- nothing stands under a name that isn't there
 pub absent : (names : List (List ℕ)) (values : List (Option (List ℕ))) (name : List ℕ) → has_text names name ≡ false → value_at names values name ≡ None
@@ -19,6 +22,11 @@ absent (n ∷ names) (v ∷ values) name e = by (bytes_eq n name) refl e (absent
 pub nothing_left : (names : List (List ℕ)) (name : List ℕ) → value_at names [] name ≡ None
 nothing_left [] name = refl
 nothing_left (n ∷ names) name = refl
+
+-- the file of merges that tags come from is the one that is named
+pub file_is : (mode : Mode) (o : Option (List ℕ)) → file_of (source_by mode o) ≡ o
+file_is mode None = refl
+file_is mode (Some name) = refl
 
 -- ---- on the way through references
 

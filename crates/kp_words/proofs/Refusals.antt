@@ -1,5 +1,5 @@
 -- Words that are no command.
-use Rattle.std.proofs.Common.{◌≡◌, ◌≢◌, ◌∙◌, ◌<◌, ◌≤◌, ◌^◌, ℕ, zero, suc, List, [], ◌∷◌, Some, map, codes, decimal, refl, sym, ap, subst, arith}
+use Rattle.std.proofs.Common.{◌≡◌, ◌≢◌, ◌∙◌, ◌<◌, ◌≤◌, ◌^◌, ℕ, zero, suc, List, [], ◌∷◌, Some, map, codes, decimal, refl, sym, subst, arith}
 use Rattle.std.specs.Fmt.{digits}
 use Rattle.std.proofs.lemmas.Fmt.{decimal_injective}
 use Rattle.kp_words_options.specs.Words.{word as said_word, option as said_option}
@@ -73,14 +73,14 @@ over_is = refl
 zero_in_front : IsNoCommand (word (codes "width") (omega arith) ∷ word (codes "d") (omega arith) ∷ word (codes "p") (omega arith) ∷ word (codes "--bound") (omega arith) ∷ word (codes "03") (omega arith) ∷ [])
 zero_in_front = no_command verbs.Width _ (codes "d" ∷ codes "p" ∷ codes "--bound" ∷ codes "03" ∷ []) refl (λ d says.
     let line = line_has_what_is_said (codes "d" ∷ codes "p" ∷ codes "--bound" ∷ codes "03" ∷ []) (codes "bound" ∷ codes "implicates" ∷ []) says.places says.values (said_word (codes "d") ∷ said_word (codes "p") ∷ said_option (codes "bound") (codes "03") ∷ []) refl says.line in
-    let said = subst (λ vs. SaysBound (value_at (form verbs.Width).options vs (codes "bound")) d.bound) (sym line.1) says.are_of.are_asked.bound in
+    let said = subst (λ vs. SaysBound (value_at (form verbs.Width).options vs (codes "bound")) d.bound) (sym line.1) says.are_of.are_asked.numbers.bound in
     one_digit d.bound said.0.at_most said.1)
 
 -- a budget of 0
 budget_of_none : IsNoCommand (word (codes "solve") (omega arith) ∷ word (codes "d") (omega arith) ∷ word (codes "p") (omega arith) ∷ word (codes "--budget") (omega arith) ∷ word (codes "0") (omega arith) ∷ [])
 budget_of_none = no_command verbs.Solve _ (codes "d" ∷ codes "p" ∷ codes "--budget" ∷ codes "0" ∷ []) refl (λ d says.
     let line = line_has_what_is_said (codes "d" ∷ codes "p" ∷ codes "--budget" ∷ codes "0" ∷ []) (codes "mode" ∷ codes "merges" ∷ codes "implicates" ∷ codes "budget" ∷ codes "classical" ∷ []) says.places says.values (said_word (codes "d") ∷ said_word (codes "p") ∷ said_option (codes "budget") (codes "0") ∷ []) refl says.line in
-    let said = subst (λ vs. SaysBudget (value_at (form verbs.Solve).options vs (codes "budget")) d.budget) (sym line.1) says.are_of.are_asked.budget in
+    let said = subst (λ vs. SaysBudget (value_at (form verbs.Solve).options vs (codes "budget")) d.budget) (sym line.1) says.are_of.are_asked.numbers.budget in
     let low = said.0.at_least in
     let high = said.0.at_most in
     let same = says_other 0 d.budget (codes "0") (omega arith) (omega (arith, high)) zero_is said.1 in
@@ -90,7 +90,7 @@ budget_of_none = no_command verbs.Solve _ (codes "d" ∷ codes "p" ∷ codes "--
 too_large : IsNoCommand (word (codes "bench") (omega arith) ∷ word (codes "line") (omega arith) ∷ word (codes "101") (omega arith) ∷ [])
 too_large = no_command verbs.Bench _ (codes "line" ∷ codes "101" ∷ []) refl (λ d says.
     let line = line_has_what_is_said (codes "line" ∷ codes "101" ∷ []) (codes "mode" ∷ codes "budget" ∷ []) says.places says.values (said_word (codes "line") ∷ said_word (codes "101") ∷ []) refl says.line in
-    let said = subst (λ ps. SaysSize (value_at (form verbs.Bench).places (map Some ps) (codes "N")) d.size) (sym line.0) says.are_of.are_asked.size in
+    let said = subst (λ ps. SaysSize (value_at (form verbs.Bench).places (map Some ps) (codes "N")) d.size) (sym line.0) says.are_of.are_asked.generated.size in
     let high = said.0.at_most in
     let same = says_other 101 d.size (codes "101") (omega arith) (omega (arith, high)) over_is said.1 in
     absurd (omega (arith, high, same)))
@@ -99,11 +99,11 @@ too_large = no_command verbs.Bench _ (codes "line" ∷ codes "101" ∷ []) refl 
 mode_and_merges : IsNoCommand (word (codes "lift") (omega arith) ∷ word (codes "d") (omega arith) ∷ word (codes "p") (omega arith) ∷ word (codes "t") (omega arith) ∷ word (codes "--mode") (omega arith) ∷ word (codes "k1") (omega arith) ∷ word (codes "--merges") (omega arith) ∷ word (codes "m") (omega arith) ∷ [])
 mode_and_merges = no_command verbs.Lift _ (codes "d" ∷ codes "p" ∷ codes "t" ∷ codes "--mode" ∷ codes "k1" ∷ codes "--merges" ∷ codes "m" ∷ []) refl (λ d says.
     let line = line_has_what_is_said (codes "d" ∷ codes "p" ∷ codes "t" ∷ codes "--mode" ∷ codes "k1" ∷ codes "--merges" ∷ codes "m" ∷ []) (codes "mode" ∷ codes "merges" ∷ codes "implicates" ∷ []) says.places says.values (said_word (codes "d") ∷ said_word (codes "p") ∷ said_word (codes "t") ∷ said_option (codes "mode") (codes "k1") ∷ said_option (codes "merges") (codes "m") ∷ []) refl says.line in
-    subst (λ vs. AreNotBoth (value_at (form verbs.Lift).options vs (codes "mode")) (value_at (form verbs.Lift).options vs (codes "merges"))) (sym line.1) says.are_of.are_asked.one_source)
+    subst (λ vs. AreNotBoth (value_at (form verbs.Lift).options vs (codes "mode")) (value_at (form verbs.Lift).options vs (codes "merges"))) (sym line.1) says.are_of.are_asked.source.one_source)
 
 -- equal names of the written files
 equal_outputs : IsNoCommand (word (codes "translate") (omega arith) ∷ word (codes "d") (omega arith) ∷ word (codes "p") (omega arith) ∷ word (codes "o") (omega arith) ∷ word (codes "o") (omega arith) ∷ [])
 equal_outputs = no_command verbs.Translate _ (codes "d" ∷ codes "p" ∷ codes "o" ∷ codes "o" ∷ []) refl (λ d says.
     let line = line_has_what_is_said (codes "d" ∷ codes "p" ∷ codes "o" ∷ codes "o" ∷ []) (codes "mode" ∷ codes "merges" ∷ codes "implicates" ∷ []) says.places says.values (said_word (codes "d") ∷ said_word (codes "p") ∷ said_word (codes "o") ∷ said_word (codes "o") ∷ []) refl says.line in
     subst (λ ps. AreApart (value_at (form verbs.Translate).places (map Some ps) (codes "OD")) (value_at (form verbs.Translate).places (map Some ps) (codes "OP"))) (sym line.0)
-    says.are_of.are_asked.outputs_differ refl)
+    says.are_of.are_asked.files.outputs_differ refl)

@@ -3,8 +3,6 @@ use Rattle.std.specs.Prelude.{List, ℕ, Option, Some, None}
 use Rattle.kp_base.specs.declared.limits.Mode.{Mode}
 use Rattle.kp_words.specs.declared.verb.Verb.{Verb}
 use Rattle.kp_words.specs.declared.source.Family.{Family}
-use Rattle.kp_words.specs.declared.source.SourceRef.{SourceRef}
-use Rattle.kp_words.specs.declared.source.SourceRef.TheVariants as lent
 
 -- A command, with the names of files and the values that its words say. A part for which it has no word is as if nothing were said of it.
 pub record Asked : Type 0 where
@@ -19,8 +17,9 @@ pub record Asked : Type 0 where
   -- the two files that are written
   pub domain_out : List ℕ
   pub problem_out : List ℕ
-  -- the mode in which tags and merges are made; or the file of merges that they come from, if one is named
+  -- the mode in which tags and merges are made
   pub mode : Mode
+  -- the file of merges that they come from instead, if one is named; the mode is then the usual one
   pub merges : Option (List ℕ)
   -- how many prime implicates a prefix of the initial clauses may have
   pub implicates : ℕ
@@ -49,8 +48,3 @@ source_by mode (Some name) = of_file name
 -- those of a command
 abbrev pub source_of : Asked → Source
 source_of c = source_by c.mode c.merges
-
--- what a source of the code says that borrows its name
-abbrev pub source_view : SourceRef → Source
-source_view (lent.Mode mode) = of_mode mode
-source_view (lent.File name) = of_file name.now

@@ -10,22 +10,45 @@ pub record IsOfRange (least most n : ℕ) : Type 0 where
   pub at_least : least ≤ n
   pub at_most : n ≤ most
 
+-- ---- what is usual: what is taken where an option is left out
+
+abbrev pub usual_limit : ℕ
+usual_limit = 20000
+
+abbrev pub usual_budget : ℕ
+usual_budget = 10000
+
+abbrev pub usual_bound : ℕ
+usual_bound = 3
+
+abbrev pub usual_mode : Mode
+usual_mode = modes.K1
+
+-- for a command without the words of a generated problem the fields say nothing: they are these
+abbrev pub no_family : Family
+no_family = families.Line
+
+abbrev pub no_size : ℕ
+no_size = 0
+
+-- ---- what is said
+
 -- an option says a number: its value is a number of the range in decimal; or it is left out, and the number is the usual one
 abbrev pub SaysNumber : ℕ → ℕ → ℕ → Option (List ℕ) → ℕ → Type 0
 SaysNumber least most usual None n = n ≡ usual
 SaysNumber least most usual (Some word) n = IsOfRange least most n × (word ≡ decimal n)
 
--- the limit of prime implicates: from 1 to 100,000, and usually 20,000
+-- the limit of prime implicates: from 1 to 100,000
 abbrev pub SaysLimit : Option (List ℕ) → ℕ → Type 0
-SaysLimit = SaysNumber 1 100000 20000
+SaysLimit = SaysNumber 1 100000 usual_limit
 
--- the budget of a search: from 1 to 1,000,000, and usually 10,000
+-- the budget of a search: from 1 to 1,000,000
 abbrev pub SaysBudget : Option (List ℕ) → ℕ → Type 0
-SaysBudget = SaysNumber 1 1000000 10000
+SaysBudget = SaysNumber 1 1000000 usual_budget
 
--- the greatest size of a set of clauses: from 0 to 8, and usually 3
+-- the greatest size of a set of clauses: from 0 to 8
 abbrev pub SaysBound : Option (List ℕ) → ℕ → Type 0
-SaysBound = SaysNumber 0 8 3
+SaysBound = SaysNumber 0 8 usual_bound
 
 -- the word of each mode
 abbrev pub mode_word : Mode → List ℕ
@@ -36,9 +59,9 @@ mode_word modes.K3 = codes "k3"
 mode_word modes.Models = codes "models"
 mode_word modes.Auto = codes "auto"
 
--- an option says a mode: its value is the word of the mode; or it is left out, and the mode is k1
+-- an option says a mode: its value is the word of the mode; or it is left out, and the mode is the usual one
 abbrev pub SaysMode : Option (List ℕ) → Mode → Type 0
-SaysMode None mode = mode ≡ modes.K1
+SaysMode None mode = mode ≡ usual_mode
 SaysMode (Some word) mode = word ≡ mode_word mode
 
 -- the word of each family
@@ -46,14 +69,14 @@ abbrev pub family_word : Family → List ℕ
 family_word families.Line = codes "line"
 family_word families.Bombs = codes "bombs"
 
--- a word says a family; where there is none, it is `line`
+-- a word says a family
 abbrev pub SaysFamily : Option (List ℕ) → Family → Type 0
-SaysFamily None family = family ≡ families.Line
+SaysFamily None family = family ≡ no_family
 SaysFamily (Some word) family = word ≡ family_word family
 
--- a word says the size of a generated problem: from 2 to 100; where there is none, it is 0
+-- a word says the size of a generated problem: from 2 to 100
 abbrev pub SaysSize : Option (List ℕ) → ℕ → Type 0
-SaysSize = SaysNumber 2 100 0
+SaysSize = SaysNumber 2 100 no_size
 
 -- two words aren't both there
 abbrev pub AreNotBoth : Option (List ℕ) → Option (List ℕ) → Type 0

@@ -2,14 +2,14 @@ ghost use Rattle.std.specs.Prelude.{◌≡◌, ◌↔◌, ℕ, option_map, codes
 ghost use Rattle.kp_base.specs.declared.limits.Mode.{Mode as Modes};
 ghost use Rattle.kp_words_options.specs.Texts.{texts, places_of, values_of};
 ghost use Rattle.kp_words_options.specs.declared.stop.WordStop.TheVariants.{Usage};
-ghost use Rattle.kp_words.specs.Asked.{Asked as Names, source_of, source_view};
+ghost use Rattle.kp_words.specs.Asked.{Asked as Names};
 ghost use Rattle.kp_words.specs.Forms.{form};
 ghost use Rattle.kp_words.specs.Options.{AreApart, AreNotBoth, SaysBound, SaysBudget, SaysFamily, SaysLimit, SaysMode, SaysSize};
 ghost use Rattle.kp_words.specs.Command.{said, place_in, value_in, AreOf, Behind};
 ghost use Rattle.kp_words.specs.declared.source.Family.{Family as Families};
 
 use crate::lookup::{place, value};
-use crate::source::{Family, SourceRef, said_family, said_mode};
+use crate::source::{Family, said_family, said_mode};
 use crate::values::{
     are_apart, are_not_both, bytes_of, said_bound, said_budget, said_limit, said_size,
 };
@@ -37,7 +37,8 @@ pub struct Asked<'a> {
     pub domain_out: &'a [u8],
     /// The problem that is written.
     pub problem_out: &'a [u8],
-    /// The mode in which tags and merges are made, where no file of merges is named.
+    /// The mode in which tags and merges are made, where no file of merges is named; else the
+    /// usual one.
     pub mode: Mode,
     /// The file of merges, if one is named.
     pub merges: Option<&'a [u8]>,
@@ -195,16 +196,6 @@ impl<'a> Asked<'a> {
         match found {
             Some(asked) => Ok(asked),
             None => Err(WordStop::Usage),
-        }
-    }
-
-    /// Where the tags and merges come from: from the named file of merges, or else from the mode.
-    pub fn source(&self) -> SourceRef<'a>
-        ensures { source_view result ≡ source_of self.now }
-    {
-        match self.merges {
-            Some(name) => SourceRef::File(name),
-            None => SourceRef::Mode(self.mode),
         }
     }
 }

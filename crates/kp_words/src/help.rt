@@ -1,5 +1,5 @@
 ghost use Rattle.std.specs.Prelude.{◌≡◌, IfOk};
-ghost use Rattle.kp_words.specs.Usage.{usage_text};
+ghost use Rattle.kp_words.specs.Usage.{usage_text, usage_by_table};
 
 use kp_base::{Memory, Row};
 use std::alloc::Global;
@@ -17,7 +17,8 @@ const USAGE: &str = "usage: kplan translate D P OD OP [--mode M | --merges F] [-
 
 /// How to call the program.
 pub fn usage(alloc: Global) -> Result<Row<u8>, Memory>
-    ensures { IfOk result (λ text. text ≡ usage_text) }
+    ensures text { IfOk result (λ text. text ≡ usage_text) }
+    ensures table { IfOk result (λ text. text ≡ usage_by_table) }
 {
     Ok(Row::from_vec(USAGE.as_bytes().to_vec(alloc)?))
 }

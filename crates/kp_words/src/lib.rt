@@ -19,5 +19,6 @@ pub use entry::{as_texts, asked_by, command};
 pub use help::usage;
 pub use kp_words_options::WordStop;
 pub use law::{words_are_decided, words_are_one_command};
-pub use source::{Family, Source, SourceRef};
+pub use source::{Family, Source};
+pub use values::USUAL_LIMIT;
 pub use verb::Verb;

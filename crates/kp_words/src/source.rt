@@ -14,15 +14,6 @@ pub enum Source {
     File(Text),
 }
 
-/// Where they come from, with a borrowed name.
-#[derive(Clone, Copy)]
-pub enum SourceRef<'a> {
-    /// They are made in this mode.
-    Mode(Mode),
-    /// They are read from this file of merges.
-    File(&'a [u8]),
-}
-
 /// A family of generated problems.
 #[derive(Clone, Copy)]
 pub enum Family {

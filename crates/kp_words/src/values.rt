@@ -3,6 +3,9 @@ ghost use Rattle.kp_words.specs.Options.{IsOfRange, SaysNumber, SaysLimit, SaysB
 
 use itoa::Buffer;
 
+/// How many prime implicates a prefix may have where no option says it.
+pub const USUAL_LIMIT: u32 = 20_000;
+
 // Whether a word differs from another, if there is one.
 fn is_other(word: &str, other: Option<&str>) -> bool
     ensures { IsTrue result ↔ AreApart (Some word.now) (option_map (λ w. w.now) other.entry) }
@@ -97,7 +100,7 @@ fn said_number(value: Option<&str>, least: u32, most: u32, usual: u32) -> Option
 pub(crate) fn said_limit(value: Option<&str>) -> Option<u32>
     ensures { MatchOption result ((n : ℕ) → SaysLimit (option_map (λ s. s.now) value.entry) n → ⊥) (λ n. SaysLimit (option_map (λ s. s.now) value.entry) n) }
 {
-    said_number(value, 1, 100_000, 20_000)
+    said_number(value, 1, 100_000, USUAL_LIMIT)
 }
 
 /// The budget of a search that the value of an option says.

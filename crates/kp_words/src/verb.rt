@@ -1,10 +1,10 @@
 ghost use Rattle.std.specs.Prelude.{◌≡◌, ℕ, List, Option as Maybe, length, bytes_eq, IfOk, IfErr};
-ghost use Rattle.kp_words_options.specs.Words.{Line, has_text};
+ghost use Rattle.kp_words_options.specs.Words.{Line};
 ghost use Rattle.kp_words_options.specs.Texts.{texts, places_of, values_of};
 ghost use Rattle.kp_words_options.specs.declared.stop.WordStop.TheVariants.{Usage};
 ghost use Rattle.kp_words.specs.Forms.{form, verb_named};
 
-use kp_words_options::{Given, WordStop, is_among, line_of};
+use kp_words_options::{Given, WordStop, line_of};
 use std::alloc::Global;
 
 /// A command.
@@ -42,12 +42,14 @@ const VERBS: [Verb; 9] = [
     Verb::Bench,
 ];
 
-/// The word of a command, the names of its positional words, and its options, both in order.
+/// The word of a command, the names of its positional words and its options, both in order, and
+/// those of them that name files which it reads.
 #[derive(Clone, Copy)]
 pub(crate) struct Form<'a> {
     pub(crate) word: &'a str,
     pub(crate) places: &'a [&'a str],
     pub(crate) options: &'a [&'a str],
+    pub(crate) reads: &'a [&'a str],
 }
 
 impl Verb {
@@ -56,68 +58,71 @@ impl Verb {
         ensures word { result.word.now ≡ (form self).word }
         ensures places { texts result.places.now ≡ (form self).places }
         ensures options { texts result.options.now ≡ (form self).options }
+        ensures reads { texts result.reads.now ≡ (form self).reads }
     {
         match self {
             Verb::Translate => Form {
                 word: "translate",
                 places: &["D", "P", "OD", "OP"],
                 options: &["mode", "merges", "implicates"],
+                reads: &["D", "P", "merges"],
             },
             Verb::Solve => Form {
                 word: "solve",
                 places: &["D", "P"],
                 options: &["mode", "merges", "implicates", "budget", "classical"],
+                reads: &["D", "P", "merges"],
             },
             Verb::Classical => Form {
                 word: "classical",
                 places: &["D", "P"],
                 options: &["budget"],
+                reads: &["D", "P"],
             },
             Verb::Strip => Form {
                 word: "strip",
                 places: &["T"],
                 options: &[],
+                reads: &["T"],
             },
             Verb::Lift => Form {
                 word: "lift",
                 places: &["D", "P", "PLAN"],
                 options: &["mode", "merges", "implicates"],
+                reads: &["D", "P", "merges", "PLAN"],
             },
             Verb::Check => Form {
                 word: "check",
                 places: &["D", "P", "PLAN"],
                 options: &["implicates"],
+                reads: &["D", "P", "PLAN"],
             },
             Verb::Width => Form {
                 word: "width",
                 places: &["D", "P"],
                 options: &["bound", "implicates"],
+                reads: &["D", "P"],
             },
             Verb::Merges => Form {
                 word: "merges",
                 places: &["D", "P"],
                 options: &["mode", "implicates"],
+                reads: &["D", "P"],
             },
             Verb::Bench => Form {
                 word: "bench",
                 places: &["FAMILY", "N"],
                 options: &["mode", "budget"],
+                reads: &[],
             },
         }
     }
 
-    /// Whether it has a positional word of this name.
-    pub fn has_place(self, name: &str) -> bool
-        ensures { result ≡ has_text (form self).places name.now }
+    /// The names of the positional words and options that name files which it reads, in order.
+    pub fn reads<'a>(self) -> &'a [&'a str]
+        ensures { texts result.now ≡ (form self).reads }
     {
-        is_among(self.form().places, name)
-    }
-
-    /// Whether it has an option of this name.
-    pub fn has_option(self, name: &str) -> bool
-        ensures { result ≡ has_text (form self).options name.now }
-    {
-        is_among(self.form().options, name)
+        self.form().reads
     }
 
     // Whether it has this word.

@@ -173,7 +173,6 @@ pub fn line_of<'a>(
     requires { Fits name.now (texts ids.now) (texts options.now) }
     ensures ok { IfOk result (λ g. Line (texts words.entry.now) (given_places g) (texts options.now) (given_values g)) }
     ensures places { IfOk result (λ g. length g.places.items ≡ length ids.now) }
-    ensures values { IfOk result (λ g. length g.values.items ≡ length options.now) }
     ensures err { IfErr result (λ e. e ≡ Usage → (places : List (List ℕ)) (values : List (Option (List ℕ))) → length places ≡ length ids.now → Line (texts words.entry.now) places (texts options.now) values → ⊥) }
 {
     let Some(count) = count_places(alloc, options, words)? else {

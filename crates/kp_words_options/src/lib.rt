@@ -9,5 +9,4 @@ mod stop;
 
 pub use assign::line_of;
 pub use given::Given;
-pub use scan::is_among;
 pub use stop::WordStop;

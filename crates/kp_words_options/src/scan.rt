@@ -45,8 +45,8 @@ fn option_of(word: &str) -> Option<(&str, Option<&str>)>
     Some(split_value(rest))
 }
 
-/// Whether a text is one of these.
-pub fn is_among(all: &[&str], text: &str) -> bool
+// Whether a text is one of these.
+fn is_among(all: &[&str], text: &str) -> bool
     ensures { result ≡ has_text (texts all.now) text.now }
 {
     for one in all {

@@ -1,11 +1,12 @@
-use Rattle.std.proofs.Common.{◌≡◌, ◌∙◌, Err, sym, ap, subst}
+use Rattle.std.proofs.Common.{◌∙◌, Err, sym, ap, subst}
 use Rattle.std.proofs.lemmas.Result.{err_from_is_err_and}
 use Rattle.kp_words.specs.Asked.{Asked}
 use Rattle.kp_words.specs.declared.verb.Verb.{Verb}
-use Rattle.kp_run.specs.Contents.{AreContents}
-use Rattle.kp_run.specs.CommandParts.{IsReadOf}
+use Rattle.kp_words.specs.Forms.{form}
+use Rattle.kp_run.specs.Contents.{AreContentsUnder}
+use Rattle.kp_run.specs.CommandParts.{AreReadUnder}
 use Rattle.kp_run.specs.Outcomes.{ComesBy}
-use Rattle.kp_run.proofs.Parts.{only_then, only_memory}
+use Rattle.kp_run.proofs.Reading.{read_within, contents_read, contents_are, inputs_are, only_then, only_memory}
 use Rattle.kp_run.proofs.entry.come_to.Goals as goal
 
 pub outcome_by-requires-clause-size : goal.outcome_by-requires-clause-size
@@ -14,17 +15,33 @@ outcome_by-requires-clause-size g c is = c.requires (sym (ap (λ (k : Asked). k.
 pub outcome_by-requires-clause-read : goal.outcome_by-requires-clause-read
 outcome_by-requires-clause-read g c =
     let held = g.S.Shelf.contents c.args.shelf.now in
-    (held, subst (λ (v : Verb). IsReadOf held v c.args.asked.now c.in_ok-inputs.inputs) (sym (ap (λ (k : Asked). k.verb) c.asked.view_is)) c.in_ok-inputs.ensures.read)
+    (held, subst (λ (v : Verb). AreReadUnder held (form v).reads c.args.asked.now c.in_ok-inputs.inputs) (sym (ap (λ (k : Asked). k.verb) c.asked.view_is)) c.in_ok-inputs.ensures.read)
+
+-- what was read is within the limit
+
+pub outcome_by-requires-clause-domain : goal.outcome_by-requires-clause-domain
+outcome_by-requires-clause-domain g c = read_within (g.S.Shelf.contents c.args.shelf.now) _ c.in_ok-inputs.inputs.domain c.in_ok-inputs.ensures.read.domain
+
+pub outcome_by-requires-clause-problem : goal.outcome_by-requires-clause-problem
+outcome_by-requires-clause-problem g c = read_within (g.S.Shelf.contents c.args.shelf.now) _ c.in_ok-inputs.inputs.problem c.in_ok-inputs.ensures.read.problem
+
+pub outcome_by-requires-clause-plan : goal.outcome_by-requires-clause-plan
+outcome_by-requires-clause-plan g c = read_within (g.S.Shelf.contents c.args.shelf.now) _ c.in_ok-inputs.inputs.plan c.in_ok-inputs.ensures.read.plan
+
+pub outcome_by-requires-clause-written : goal.outcome_by-requires-clause-written
+outcome_by-requires-clause-written g c = read_within (g.S.Shelf.contents c.args.shelf.now) _ c.in_ok-inputs.inputs.written c.in_ok-inputs.ensures.read.written
 
 pub returns-clause-comes_to : goal.returns-clause-comes_to
 returns-clause-comes_to g c =
     let held = g.S.Shelf.contents c.args.shelf.now in
     let own = ap (λ (k : Asked). k.verb) c.asked.view_is in
-    let r = c.in_ok-inputs.ensures.read in (
-      r.contents,
-      r.are,
-      subst (λ (v : Verb). ComesBy v c.args.asked.now r.contents c.in_ok-outcome.outcome) own
-          (c.in_ok-outcome.ensures held r.contents (subst (λ (v : Verb). AreContents held v c.args.asked.now r.contents) (sym own) r.are) r.inputs),
+    let names = (form c.args.asked.now.verb).reads in
+    let t = contents_read held names c.args.asked.now c.in_ok-inputs.inputs c.in_ok-inputs.ensures.read in
+    let are = contents_are held names c.args.asked.now c.in_ok-inputs.inputs c.in_ok-inputs.ensures.read in (
+      t,
+      are,
+      subst (λ (v : Verb). ComesBy v c.args.asked.now t c.in_ok-outcome.outcome) own
+          (c.in_ok-outcome.ensures held t (subst (λ (v : Verb). AreContentsUnder (form v).reads held c.args.asked.now t) (sym own) are) (inputs_are held names c.args.asked.now c.in_ok-inputs.inputs c.in_ok-inputs.ensures.read)),
     )
 
 pub returns-clause-only : goal.returns-clause-only

@@ -3,7 +3,7 @@ use Rattle.kp_words_options.specs.Texts.{texts}
 use Rattle.kp_words.specs.Command.{AreWords, IsCommand}
 use Rattle.kp_words.proofs.Public.{bench_is_sized}
 use Rattle.kp_run.specs.Outcomes.{IsDue, usage}
-use Rattle.kp_run.proofs.Parts.{due_of}
+use Rattle.kp_run.proofs.Reading.{due_of}
 use Rattle.kp_run.proofs.entry.due_of.Goals as goal
 
 pub come_to-requires : goal.come_to-requires

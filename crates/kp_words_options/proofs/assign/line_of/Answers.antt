@@ -37,9 +37,6 @@ returns-clause-ok c =
     c.in-Some.count (sym c.in_ok-count.ensures ∙ c.in-Some.is) (c.if-count-ids.false ∙ sym (length_texts c.args.ids.now))
     c.in_ok-given.given.places.items (map (option_map (λ s. s.now)) c.in_ok-given.given.values.items) c.in_ok-given.ensures.places c.in_ok-given.ensures.values)
 
--- as many places and values as there are
+-- as many places as there are names
 pub returns-clause-places : goal.returns-clause-places
 returns-clause-places c = same_length (λ p. Some p.now) (λ id. first_value (found_of c.in_ok-matches.matches) id.now) c.in_ok-given.given.places.items c.args.ids.now c.in_ok-given.ensures.places
-
-pub returns-clause-values : goal.returns-clause-values
-returns-clause-values c = same_length (option_map (λ s. s.now)) (λ name. first_value (found_of c.in_ok-matches.matches) name.now) c.in_ok-given.given.values.items c.args.options.now c.in_ok-given.ensures.values
