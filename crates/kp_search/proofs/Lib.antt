@@ -1,4 +1,5 @@
 pub mod Public
+pub mod Asked
 pub mod ByAdded
 pub mod Ends
 pub mod Kept
@@ -14,3 +15,4 @@ pub mod Spreads
 pub mod States
 pub mod Taken
 pub mod Turning
+pub mod Watching

@@ -1,5 +1,5 @@
 -- A table's states in their order.
-use Rattle.std.proofs.Common.{◌≡◌, ◌<◌, ◌≤◌, ◌+◌, ◌-◌, ◌⊎◌, ℕ, zero, suc, Bool, IsTrue, Result, Ok, Err, MatchResult, is_ok, List, [], ◌∷◌, ◌++◌, Some, insert, set, take, length, slice_get, get_or, arith, refl, sym, ap, subst, ◌∙◌, inl, inr}
+use Rattle.std.proofs.Common.{◌≡◌, ◌<◌, ◌≤◌, ◌+◌, ◌-◌, ◌⊎◌, ℕ, zero, suc, Bool, IsTrue, Result, Ok, Err, MatchResult, is_ok, is_some, IfSome, IfNone, Option, None, List, [], ◌∷◌, ◌++◌, Some, insert, set, take, length, slice_get, get_or, arith, refl, sym, ap, subst, ◌∙◌, inl, inr}
 use Rattle.std.specs.List.{AllByRecursion}
 use Rattle.std.proofs.lemmas.Bool.{cases_order, cases_lt, false≢true}
 use Rattle.std.proofs.lemmas.List.{length-append, length-set, length-take-le}
@@ -207,6 +207,11 @@ tells_read states read order keys o is_read is_order s r b is h =
     tells states order o s r b is
     (subst (λ xs. MatchResult r (λ at. StandsAt xs order at s) (λ gap. IsGap xs order gap s)) is_read
     (subst (λ ks. MatchResult r (λ at. StandsAt read ks at s) (λ gap. IsGap read ks gap s)) is_order h))
+
+-- a place that is told, or none, tells whether the state is there
+pub told : (states : List FactSet) (s : FactSet) (r : Option ℕ) (b : Bool) → b ≡ is_some r → IfSome r (λ place. slice_get states place ≡ Some s) → IfNone r (Member states s → ⊥) → (IsTrue b → Member states s) × (Member states s → IsTrue b)
+told states s (Some place) b is h n = (λ _. member_at states place s h, λ _. subst IsTrue (sym is) refl)
+told states s None b is h n = (λ t. absurd (false≢true (sym is ∙ t)), λ m. absurd (n m))
 
 -- what contracts see of the table then
 pub view_put : (facts : ℕ) (rows was rows' : List FactSet) (order order' : List ℕ) (s : FactSet) → was ≡ rows → take (length order') rows' ≡ take (length order) was ++ s ∷ [] → length rows' ≡ length was

@@ -116,8 +116,8 @@ expand_origin : (t : Task) (c : Course) (m n : ℕ) (e : Entry) (o : Origin) →
 expand_origin t c m n e Start h = h
 expand_origin t c m n e (Step k op) (j, d, a, b, r, q, x, y) = (j, d, get_left c.expanded (m ∷ []) k j a, b, r, q, x, y)
 
-pub keeps_expanded : (t : Task) (c : Course) (s s' : Search) (n : ℕ) (e : Entry) → Keeps t (with_taken c n) s → slice_get c.entries n ≡ Some e → Expands s n e.state s' → Keeps t (with_expanded c n []) s'
-keeps_expanded t c s s' n e k there x = subst (λ es. Keeps t (record { entries = es; taken = n ∷ c.taken; expanded = c.expanded ++ n ∷ [] }) s') (sym (append-nil c.entries)) (record {
+pub keeps_expanded : (t : Task) (c : Course) (s s' : Search) (key : Key) (e : Entry) → Keeps t (with_taken c key.number) s → slice_get c.entries key.number ≡ Some e → Expands s key e.state s' → Keeps t (with_expanded c key.number []) s'
+keeps_expanded t c s s' key e k there x = let n = key.number in subst (λ es. Keeps t (record { entries = es; taken = n ∷ c.taken; expanded = c.expanded ++ n ∷ [] }) s') (sym (append-nil c.entries)) (record {
   long = ap length x.origins ∙ k.long;
   origins = λ m d h. let r = k.origins m d h in (r.0, ap (λ xs. slice_get xs m) x.origins ∙ r.1, expand_origin t c n m d r.0 r.2);
   waiting = λ y. ap (λ w. times w y) x.waiting ∙ k.waiting y;

@@ -1,5 +1,5 @@
 -- The turns of a search, on what is kept of its course.
-use Rattle.std.proofs.Common.{◌≡◌, ◌<◌, ◌≤◌, ◌+◌, ◌-◌, ◌*◌, ℕ, Bool, true, false, cond, IsTrue, List, [], Option, Some, None, length, slice_get, get_or, arith, refl, sym, ap, subst, ◌∙◌}
+use Rattle.std.proofs.Common.{◌≡◌, ◌<◌, ◌≤◌, ◌+◌, ◌-◌, ◌*◌, ℕ, Bool, true, false, cond, IsTrue, List, [], ◌∷◌, ◌++◌, Option, Some, None, length, slice_get, get_or, arith, refl, sym, ap, subst, ◌∙◌}
 use Rattle.std.proofs.lemmas.Bool.{false≢true}
 use Rattle.std.proofs.lemmas.Option.{slice_get_within, slice_get-get_or, same_Some}
 use Rattle.kp_base.specs.Lists.{Member}
@@ -15,7 +15,9 @@ use Rattle.kp_search.specs.Trace.{Entry, Course, first, is_goal, nothing, one_en
 use Rattle.kp_search.specs.Trace.IsCourse.{lost, begun, passed, spread}
 use Rattle.kp_search.specs.Kept.{Adds, Keeps, Pops, Expands, ExpandsIfNew, IsEmpty}
 use Rattle.kp_search.specs.Sound.{Expanded}
+use Rattle.kp_search.specs.Estimates.{AreEstimates}
 use Rattle.kp_search.specs.Turns.{IsAt, IsKnown, OfEntry, IsTaken, Spreads, work}
+use Rattle.kp_search.proofs.Asked.{estimated, none_asked, same_asked, one_more_asked}
 use Rattle.kp_search.proofs.Kept.{keeps_added, waits_from}
 use Rattle.kp_search.proofs.Taken.{popped_next, keeps_popped, keeps_expanded}
 use Rattle.kp_search.proofs.Sound.{sound}
@@ -42,7 +44,13 @@ keeps_nothing t s h = record {
 
 module _ (t : Task) (fit : IsFit t) (may : FactSet → Option ℕ → Type 0) (budget : ℕ) where
   pub at_lost : (s : Search) → IsEmpty (length t.facts) s → budget ≤ s.table.room → may (first t) None → IsAt t may budget s
-  at_lost s h room m = record { course = nothing; is = lost m; kept = keeps_nothing t s h; has_room = room }
+  at_lost s h room m = record {
+    course = nothing;
+    is = lost m;
+    kept = keeps_nothing t s h;
+    has_room = room;
+    asked = none_asked may s.table.states s.estimates.items h.states h.estimates;
+  }
 
   pub at_begun : (s s' : Search) (v : ℕ) → IsEmpty (length t.facts) s → budget ≤ s.table.room → may (first t) (Some v) → Adds s Start v s' → IsAt t may budget s'
   at_begun s s' v h room m adds = record {
@@ -50,6 +58,7 @@ module _ (t : Task) (fit : IsFit t) (may : FactSet → Option ℕ → Type 0) (b
     is = begun v m;
     kept = keeps_added t nothing s s' (record { state = first t; estimate = v; ops = [] }) Start (keeps_nothing t s h) adds (refl, refl);
     has_room = let e = ap (λ x. x.room) adds.table in omega (arith, room, e);
+    asked = none_asked may s'.table.states s'.estimates.items (ap (λ x. x.states) adds.table ∙ h.states) (adds.estimates ∙ h.estimates);
   }
 
   pub ends_without : (s : Search) → IsAt t may budget s → s.waiting ≡ [] → EndsWithoutPlan t may budget
@@ -98,6 +107,10 @@ module _ (t : Task) (fit : IsFit t) (may : FactSet → Option ℕ → Type 0) (b
     unfolding entry
     is_next = (popped_next t at.course old new key at.kept p).1
 
+    same_estimate : entry.estimate ≡ key.estimate
+    unfolding entry
+    same_estimate = (popped_next t at.course old new key at.kept p).2
+
     kept : Keeps t (with_taken at.course key.number) new
     kept = keeps_popped t at.course old new key at.kept p
 
@@ -115,7 +128,7 @@ module _ (t : Task) (fit : IsFit t) (may : FactSet → Option ℕ → Type 0) (b
     pub less : work t budget new < work t budget old
     less = let e = ap (λ xs. (budget - length xs) * (length t.ops + 1)) p.expanded in let n = p.first.len in omega (arith, e, n)
 
-    pub took : (x : FactSet) → OfEntry t new key.number (λ e. e.state ≡ x) → IsTaken t may budget key.number x new
+    pub took : (x : FactSet) → OfEntry t new key.number (λ e. e.state ≡ x) → IsTaken t may budget key x new
     took x of = record {
       course = at.course;
       is = at.is;
@@ -123,27 +136,30 @@ module _ (t : Task) (fit : IsFit t) (may : FactSet → Option ℕ → Type 0) (b
       next = is_next;
       kept = kept;
       has_room = has_room;
+      asked = same_asked may old.table.states new.table.states old.estimates.items new.estimates.items (ap (λ x. x.states) p.table) p.estimates at.asked;
       same = of_it (λ e. e.state ≡ x) of;
+      estimate = same_estimate;
     }
 
   -- ---- an entry that was taken
 
-  module _ (n : ℕ) (x : FactSet) (s : Search) (k : IsTaken t may budget n x s) where
-    pub taken_known : IsKnown t s n
-    taken_known = record { course = with_taken k.course n; entry = k.entry; kept = k.kept; there = k.next.waits.there }
+  module _ (key : Key) (x : FactSet) (s : Search) (k : IsTaken t may budget key x s) where
+    pub taken_known : IsKnown t s key.number
+    taken_known = record { course = with_taken k.course key.number; entry = k.entry; kept = k.kept; there = k.next.waits.there }
 
     -- its state was taken before
     pub passes : Member s.table.states x → IsAt t may budget s
     passes m = record {
-      course = with_taken k.course n;
-      is = passed k.course n k.entry k.is k.next (subst (WasTaken k.course) (sym k.same) (seen k.course n s k.is k.kept x m));
+      course = with_taken k.course key.number;
+      is = passed k.course key.number k.entry k.is k.next (subst (WasTaken k.course) (sym k.same) (seen k.course key.number s k.is k.kept x m));
       kept = k.kept;
       has_room = k.has_room;
+      asked = k.asked;
     }
 
     -- it wasn't
     fresh : (Member s.table.states x → ⊥) → WasTaken k.course k.entry.state → ⊥
-    fresh not_in w = not_in (subst (Member s.table.states) k.same (seen_all k.course n s k.is k.kept k.entry.state w))
+    fresh not_in w = not_in (subst (Member s.table.states) k.same (seen_all k.course key.number s k.is k.kept k.entry.state w))
 
     -- no state that was taken before meets the goal
     fresh_goal : is_goal t x ≡ true → WasTaken k.course k.entry.state → ⊥
@@ -156,16 +172,16 @@ module _ (t : Task) (fit : IsFit t) (may : FactSet → Option ℕ → Type 0) (b
     pub few : length s.expanded.items ≤ budget
     few = let h = (sound t fit may budget k.course k.is).few in let l = ap length k.kept.expanded in omega (arith, h, l)
 
-    pub ends_plan : (ops : List ℕ) → is_goal t x ≡ true → OfEntry t s n (λ e. ops ≡ e.ops) → EndsWithPlan t may budget ops (length s.expanded.items)
+    pub ends_plan : (ops : List ℕ) → is_goal t x ≡ true → OfEntry t s key.number (λ e. ops ≡ e.ops) → EndsWithPlan t may budget ops (length s.expanded.items)
     ends_plan ops goal of = record {
       course = k.course;
       is = k.is;
-      number = n;
+      number = key.number;
       entry = k.entry;
       next = k.next;
       new = fresh_goal goal;
       goal = subst (λ z. is_goal t z ≡ true) (sym k.same) goal;
-      ops_are = of (with_taken k.course n) k.entry k.kept k.next.waits.there;
+      ops_are = of (with_taken k.course key.number) k.entry k.kept k.next.waits.there;
       expanded_are = ap length k.kept.expanded;
     }
 
@@ -173,7 +189,7 @@ module _ (t : Task) (fit : IsFit t) (may : FactSet → Option ℕ → Type 0) (b
     ends_spent not_in plain full = record {
       course = k.course;
       is = k.is;
-      number = n;
+      number = key.number;
       entry = k.entry;
       next = k.next;
       new = fresh not_in;
@@ -182,21 +198,35 @@ module _ (t : Task) (fit : IsFit t) (may : FactSet → Option ℕ → Type 0) (b
       expanded_are = refl;
     }
 
-  pub at_expanded : (n place : ℕ) (x : FactSet) (old mid new : Search) → IsTaken t may budget n x old → is_goal t x ≡ false → length old.expanded.items < budget → place ≡ length old.expanded.items → (kept : Bool) → kept ≡ true → ExpandsIfNew old n x kept mid
-      → Spreads t may place x mid (length t.ops) new → new.table ≡ mid.table → IsAt t may budget new
-  at_expanded n place x old mid new k plain room is_place false e h spreads stays = absurd (false≢true e)
-  at_expanded n place x old mid new k plain room is_place true e h spreads stays =
-      let kept = keeps_expanded t k.course old mid n k.entry k.kept k.next.waits.there (subst (λ z. Expands old n z mid) (sym k.same) h.1) in
+  -- what its state was estimated at stands beside it
+  pub kept_asked : (key : Key) (x : FactSet) (old mid : Search) → IsTaken t may budget key x old → (kept : Bool) → kept ≡ true → ExpandsIfNew old key x kept mid → AreEstimates may mid.table.states mid.estimates.items
+  kept_asked key x old mid k false e h = absurd (false≢true e)
+  kept_asked key x old mid k true e h =
+      same_asked may (old.table.states ++ x ∷ []) mid.table.states (old.estimates.items ++ key.estimate ∷ []) mid.estimates.items h.1.states h.1.estimates
+      (one_more_asked may old.table.states old.estimates.items x key.estimate k.asked
+      (subst (λ v. may x (Some v)) k.estimate (subst (λ z. may z (Some k.entry.estimate)) k.same (estimated t may budget k.course k.is key.number k.entry k.next.waits.there))))
+
+  pub kept_facts : (key : Key) (x : FactSet) (old mid : Search) → IsTaken t may budget key x old → (kept : Bool) → kept ≡ true → ExpandsIfNew old key x kept mid → mid.table.facts ≡ length t.facts
+  kept_facts key x old mid k false e h = absurd (false≢true e)
+  kept_facts key x old mid k true e h = h.1.facts ∙ k.kept.facts
+
+  pub at_expanded : (key : Key) (place : ℕ) (x : FactSet) (old mid new : Search) → IsTaken t may budget key x old → is_goal t x ≡ false → length old.expanded.items < budget → place ≡ length old.expanded.items → (kept : Bool) → kept ≡ true → ExpandsIfNew old key x kept mid
+      → Spreads t may place x mid (length t.ops) new → new.table ≡ mid.table → new.estimates.items ≡ mid.estimates.items → IsAt t may budget new
+  at_expanded key place x old mid new k plain room is_place false e h spreads stays asked = absurd (false≢true e)
+  at_expanded key place x old mid new k plain room is_place true e h spreads stays asked =
+      let n = key.number in
+      let kept = keeps_expanded t k.course old mid key k.entry k.kept k.next.waits.there (subst (λ z. Expands old key z mid) (sym k.same) h.1) in
       let r = spreads k.course n k.entry (record { kept = kept; place = is_place ∙ ap length k.kept.expanded; there = k.next.waits.there; same = k.same }) in
       let l = ap length k.kept.expanded in
       record {
         course = with_expanded k.course n r.0;
-        is = spread k.course n k.entry r.0 k.is k.next (fresh n x old k h.0) (subst (λ z. is_goal t z ≡ false) (sym k.same) plain) (omega (arith, l, room)) r.1;
+        is = spread k.course n k.entry r.0 k.is k.next (fresh key x old k h.0) (subst (λ z. is_goal t z ≡ false) (sym k.same) plain) (omega (arith, l, room)) r.1;
         kept = r.2;
         has_room = let a = k.has_room in let b = h.1.room in let c = ap (λ z. z.room) stays in omega (arith, a, b, c);
+        asked = same_asked may mid.table.states new.table.states mid.estimates.items new.estimates.items (ap (λ z. z.states) stays) asked (kept_asked key x old mid k true e h);
       }
 
   -- its state was there
-  pub stays_at : (n : ℕ) (x : FactSet) (old new : Search) → IsTaken t may budget n x old → (kept : Bool) → kept ≡ false → ExpandsIfNew old n x kept new → IsAt t may budget new
-  stays_at n x old new k true e h = absurd (false≢true (sym e))
-  stays_at n x old new k false e h = subst (IsAt t may budget) (sym h.1) (passes n x old k h.0)
+  pub stays_at : (key : Key) (x : FactSet) (old new : Search) → IsTaken t may budget key x old → (kept : Bool) → kept ≡ false → ExpandsIfNew old key x kept new → IsAt t may budget new
+  stays_at key x old new k true e h = absurd (false≢true (sym e))
+  stays_at key x old new k false e h = subst (IsAt t may budget) (sym h.1) (passes key x old k h.0)

@@ -1,5 +1,5 @@
 -- Estimates of the states of a task, of which a state may have several. This file serves proofs alone.
-use Rattle.std.specs.Prelude.{◌≡◌, ℕ, Option, length}
+use Rattle.std.specs.Prelude.{◌≡◌, ℕ, List, Option, Some, length, slice_get}
 use Rattle.kp_classic.specs.declared.task.Task.{Task}
 use Rattle.kp_classic.specs.States.{FactSet}
 
@@ -14,3 +14,8 @@ pub record HasEstimates (t : Task) (may : FactSet → Option ℕ → Type 0) : T
 -- each estimate of a state of the task is one of the others
 pub record AreAmong (t : Task) (may others : FactSet → Option ℕ → Type 0) : Type 0 where
   pub each : (s : FactSet) (h : Option ℕ) → s.facts ≡ length t.facts → may s h → others s h
+
+-- beside each of these states stands a number at which it may be estimated
+pub record AreEstimates (may : FactSet → Option ℕ → Type 0) (states : List FactSet) (estimates : List ℕ) : Type 0 where
+  pub many : length estimates ≡ length states
+  pub each : (k : ℕ) (s : FactSet) (h : ℕ) → slice_get states k ≡ Some s → slice_get estimates k ≡ Some h → may s (Some h)

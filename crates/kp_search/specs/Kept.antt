@@ -16,6 +16,7 @@ pub record Adds (old : Search) (o : Origin) (h : ℕ) (new : Search) : Type 0 wh
   pub waiting : (y : Key) → times new.waiting y ≡ (if same_key y (record { estimate = h; number = length old.origins.items }) then 1 else 0) + times old.waiting y
   pub len : length new.waiting ≡ length old.waiting + 1
   pub expanded : new.expanded.items ≡ old.expanded.items
+  pub estimates : new.estimates.items ≡ old.estimates.items
   pub table : new.table ≡ old.table
 
 -- an entry comes from there
@@ -52,11 +53,13 @@ pub record Pops (old : Search) (key : Key) (new : Search) : Type 0 where
   pub first : PopsFirst old.waiting key new.waiting
   pub origins : new.origins.items ≡ old.origins.items
   pub expanded : new.expanded.items ≡ old.expanded.items
+  pub estimates : new.estimates.items ≡ old.estimates.items
   pub table : new.table ≡ old.table
 
--- one more entry is expanded
-pub record Expands (old : Search) (n : ℕ) (s : FactSet) (new : Search) : Type 0 where
-  pub expanded : new.expanded.items ≡ old.expanded.items ++ n ∷ []
+-- one more entry is expanded, whose key this was
+pub record Expands (old : Search) (key : Key) (s : FactSet) (new : Search) : Type 0 where
+  pub expanded : new.expanded.items ≡ old.expanded.items ++ key.number ∷ []
+  pub estimates : new.estimates.items ≡ old.estimates.items ++ key.estimate ∷ []
   pub states : new.table.states ≡ old.table.states ++ s ∷ []
   pub facts : new.table.facts ≡ old.table.facts
   pub room : new.table.room ≡ old.table.room
@@ -64,14 +67,15 @@ pub record Expands (old : Search) (n : ℕ) (s : FactSet) (new : Search) : Type 
   pub waiting : new.waiting ≡ old.waiting
 
 -- one more entry is expanded, unless its state is there
-abbrev pub ExpandsIfNew : Search → ℕ → FactSet → Bool → Search → Type 0
-ExpandsIfNew old n s true new = (Member old.table.states s → ⊥) × Expands old n s new
-ExpandsIfNew old n s false new = Member old.table.states s × (new ≡ old)
+abbrev pub ExpandsIfNew : Search → Key → FactSet → Bool → Search → Type 0
+ExpandsIfNew old key s true new = (Member old.table.states s → ⊥) × Expands old key s new
+ExpandsIfNew old key s false new = Member old.table.states s × (new ≡ old)
 
 -- nothing was entered
 pub record IsEmpty (facts : ℕ) (s : Search) : Type 0 where
   pub origins : s.origins.items ≡ []
   pub waiting : s.waiting ≡ []
   pub expanded : s.expanded.items ≡ []
+  pub estimates : s.estimates.items ≡ []
   pub facts_are : s.table.facts ≡ facts
   pub states : s.table.states ≡ []

@@ -10,3 +10,4 @@ pub mod Sound
 pub mod StateTables
 pub mod Trace
 pub mod Turns
+pub mod Watched

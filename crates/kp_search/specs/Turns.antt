@@ -4,6 +4,8 @@ use Rattle.kp_classic.specs.declared.task.Task.{Task}
 use Rattle.kp_classic.specs.States.{FactSet}
 use Rattle.kp_search.specs.declared.course.Origin.TheVariants.{Step}
 use Rattle.kp_search.specs.declared.course.Search.{Search}
+use Rattle.kp_search.specs.declared.key.Key.{Key}
+use Rattle.kp_search.specs.Estimates.{AreEstimates}
 use Rattle.kp_search.specs.Trace.{Entry, Course, can, step, IsNext, with_taken, with_expanded, Enters, IsCourse}
 use Rattle.kp_search.specs.Kept.{Adds, Keeps}
 
@@ -13,6 +15,7 @@ pub record IsAt (t : Task) (may : FactSet → Option ℕ → Type 0) (budget : �
   pub is : IsCourse t may budget course
   pub kept : Keeps t course s
   pub has_room : budget ≤ s.table.room
+  pub asked : AreEstimates may s.table.states s.estimates.items
 
 -- what is left to do: entries that wait, and those that the entries to be expanded may yet bring
 abbrev pub work : Task → ℕ → Search → ℕ
@@ -47,15 +50,17 @@ pub record IsKnown (t : Task) (s : Search) (n : ℕ) : Type 0 where
 abbrev pub OfEntry : Task → Search → ℕ → (Entry → Type 0) → Type 0
 OfEntry t s n P = (c : Course) (e : Entry) → Keeps t c s → slice_get c.entries n ≡ Some e → P e
 
--- the entry with this number and state was taken
-pub record IsTaken (t : Task) (may : FactSet → Option ℕ → Type 0) (budget n : ℕ) (state : FactSet) (s : Search) : Type 0 where
+-- the entry with this key and state was taken
+pub record IsTaken (t : Task) (may : FactSet → Option ℕ → Type 0) (budget : ℕ) (key : Key) (state : FactSet) (s : Search) : Type 0 where
   pub course : Course
   pub is : IsCourse t may budget course
   pub entry : Entry
-  pub next : IsNext course n entry
-  pub kept : Keeps t (with_taken course n) s
+  pub next : IsNext course key.number entry
+  pub kept : Keeps t (with_taken course key.number) s
   pub has_room : budget ≤ s.table.room
+  pub asked : AreEstimates may s.table.states s.estimates.items
   pub same : entry.state ≡ state
+  pub estimate : entry.estimate ≡ key.estimate
 
 -- the entry at a place is on the way to the one with this number, and these operators, the last first, lead on from it
 abbrev pub IsBehind : Task → Search → ℕ → ℕ → List ℕ → Type 0

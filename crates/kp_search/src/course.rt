@@ -24,6 +24,8 @@ pub struct Search {
     pub waiting: Waiting,
     /// The numbers of the expanded entries.
     pub expanded: Vec<usize>,
+    /// What they were estimated at.
+    pub estimates: Vec<u32>,
     /// Their states.
     pub table: Table,
 }
@@ -39,6 +41,7 @@ impl Search {
             origins: Vec::new(alloc),
             waiting: Waiting::new(alloc),
             expanded: Vec::new(alloc),
+            estimates: Vec::new(alloc),
         })
     }
 
@@ -60,16 +63,18 @@ impl Search {
         self.waiting.pop()
     }
 
-    /// Keeps an entry as expanded, with its state, unless the state is there. Whether it was kept.
-    pub fn keep(&mut self, number: usize, state: &State) -> Result<bool, Memory>
+    /// Keeps an entry as expanded, with its state and what that was estimated at, unless the state is there. Whether it was
+    /// kept.
+    pub fn keep(&mut self, key: Key, state: &State) -> Result<bool, Memory>
         requires same { state.now.facts ≡ self.old.table.facts }
         requires room { length self.old.table.states < self.old.table.room }
-        ensures { IfOk result (λ kept. ExpandsIfNew self.old number state.now kept self.new) }
+        ensures { IfOk result (λ kept. ExpandsIfNew self.old key state.now kept self.new) }
     {
         if !self.table.insert(state) {
             return Ok(false);
         }
-        self.expanded.push(number)?;
+        self.expanded.push(key.number)?;
+        self.estimates.push(key.estimate)?;
         Ok(true)
     }
 }

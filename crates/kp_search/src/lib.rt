@@ -13,6 +13,7 @@ mod spread;
 mod table;
 mod turns;
 mod waiting;
+mod watch;
 
 pub use course::{Origin, Search};
 pub use found::Found;

@@ -1,4 +1,4 @@
-ghost use Rattle.std.specs.Prelude.{◌≡◌, ◌<◌, ◌↔◌, [], ◌∷◌, ◌++◌, Some, length, slice_get, take, vec_capacity, IsTrue, IfOk};
+ghost use Rattle.std.specs.Prelude.{◌≡◌, ◌<◌, ◌↔◌, [], ◌∷◌, ◌++◌, Some, length, slice_get, take, vec_capacity, IsTrue, IfOk, IfSome, IfNone};
 ghost use Rattle.std.specs.List.{AllByRecursion};
 ghost use Rattle.kp_base.specs.Lists.{Member};
 ghost use Rattle.kp_classic.specs.States.{FactSet};
@@ -80,12 +80,24 @@ impl Table {
         &self.rows[..self.order.len()]
     }
 
+    /// The place of a state, if it is there.
+    pub fn place_of(&self, state: &State) -> Option<usize>
+        requires { state.now.facts ≡ self.now.facts }
+        ensures some { IfSome result (λ place. slice_get self.now.states place ≡ Some state.now) }
+        ensures none { IfNone result (Member self.now.states state.now → ⊥) }
+    {
+        match place_in(self.states(), &self.order, state) {
+            Ok(at) => Some(self.order[at]),
+            Err(_) => None,
+        }
+    }
+
     /// Whether the state is there.
     pub fn has(&self, state: &State) -> bool
         requires { state.now.facts ≡ self.now.facts }
         ensures { IsTrue result ↔ Member self.now.states state.now }
     {
-        place_in(self.states(), &self.order, state).is_ok()
+        self.place_of(state).is_some()
     }
 
     /// Adds a state at the end, unless it is there. Whether it was added. There is memory for it.

@@ -5,9 +5,11 @@ ghost use Rattle.kp_search.specs.Trace as trace;
 ghost use Rattle.kp_search.specs.Ends.{HasEnd, Tells};
 ghost use Rattle.kp_search.specs.Scratch.{AreOf};
 ghost use Rattle.kp_search.specs.Turns.{IsAt, IsTaken, work};
+ghost use Rattle.kp_search.specs.Watched.{AreWatched};
 
 use crate::scratch::Scratch;
-use crate::{Found, Origin, Search};
+use crate::watch::Watch;
+use crate::{Found, Key, Origin, Search};
 use kp_base::Memory;
 use kp_classic::{State, Task, meets};
 use kp_guide::Estimator;
@@ -17,18 +19,21 @@ impl Search {
     // Expands an entry that was taken, unless its state was taken before.
     fn expand<E: Estimator>(
         &mut self,
+        alloc: Global,
+        watch: &Watch,
         task: &Task,
         guide: &E,
         budget: u32,
-        number: usize,
+        key: Key,
         state: &State,
         next: &mut State,
     ) -> Result<(), Memory>
         requires fit { IsFit task.now }
+        requires watched { AreWatched task.now (length task.now.ops) watch.now.rows.items }
         requires serves { E.serves guide.now task.now }
         requires of_task { state.now.facts ≡ length task.now.facts }
         requires next_of_task { next.old.facts ≡ length task.now.facts }
-        requires taken { IsTaken task.now (E.may_answer guide.now task.now) budget number state.now self.old }
+        requires taken { IsTaken task.now (E.may_answer guide.now task.now) budget key state.now self.old }
         requires no_goal { trace.is_goal task.now state.now ≡ false }
         requires room { length self.old.expanded.items < budget }
         ensures facts { next.new.facts ≡ length task.now.facts }
@@ -36,10 +41,10 @@ impl Search {
         ensures less { OnOk result (work task.now budget self.new < work task.now budget self.old + 1) }
     {
         let place = self.expanded.len() as u32;
-        if !self.keep(number, state)? {
+        if !self.keep(key, state)? {
             return Ok(());
         }
-        self.spread(task, guide, place, state, next)?;
+        self.spread(alloc, watch, task, guide, place, state, next)?;
         Ok(())
     }
 
@@ -47,29 +52,31 @@ impl Search {
     fn visit<E: Estimator>(
         &mut self,
         alloc: Global,
+        watch: &Watch,
         task: &Task,
         guide: &E,
         budget: u32,
-        number: usize,
+        key: Key,
         state: &State,
         next: &mut State,
     ) -> Result<Option<Found>, Memory>
         requires fit { IsFit task.now }
+        requires watched { AreWatched task.now (length task.now.ops) watch.now.rows.items }
         requires serves { E.serves guide.now task.now }
         requires of_task { state.now.facts ≡ length task.now.facts }
         requires next_of_task { next.old.facts ≡ length task.now.facts }
-        requires taken { IsTaken task.now (E.may_answer guide.now task.now) budget number state.now self.old }
+        requires taken { IsTaken task.now (E.may_answer guide.now task.now) budget key state.now self.old }
         ensures facts { next.new.facts ≡ length task.now.facts }
         ensures ends { IfOk result (λ end. MatchOption end ((IsAt task.now (E.may_answer guide.now task.now) budget self.new) × (work task.now budget self.new < work task.now budget self.old + 1)) (HasEnd task.now (E.may_answer guide.now task.now) budget)) }
     {
         let expanded = self.expanded.len();
         if meets(task, state) {
-            let ops = self.ops_to(alloc, task, number)?;
+            let ops = self.ops_to(alloc, task, key.number)?;
             let expanded = expanded as u32;
             return Ok(Some(Found::Plan { ops, expanded }));
         }
         if expanded < budget as usize {
-            self.expand(task, guide, budget, number, state, next)?;
+            self.expand(alloc, watch, task, guide, budget, key, state, next)?;
             return Ok(None);
         }
         if self.table.has(state) {
@@ -82,12 +89,14 @@ impl Search {
     fn turn<E: Estimator>(
         &mut self,
         alloc: Global,
+        watch: &Watch,
         task: &Task,
         guide: &E,
         budget: u32,
         scratch: &mut Scratch,
     ) -> Result<Option<Found>, Memory>
         requires fit { IsFit task.now }
+        requires watched { AreWatched task.now (length task.now.ops) watch.now.rows.items }
         requires serves { E.serves guide.now task.now }
         requires at { IsAt task.now (E.may_answer guide.now task.now) budget self.old }
         requires scratch { AreOf task.now scratch.old }
@@ -107,10 +116,11 @@ impl Search {
         );
         self.visit(
             alloc,
+            watch,
             task,
             guide,
             budget,
-            key.number,
+            key,
             &scratch.state,
             &mut scratch.spare,
         )
@@ -120,19 +130,21 @@ impl Search {
     fn take_turns<E: Estimator>(
         &mut self,
         alloc: Global,
+        watch: &Watch,
         task: &Task,
         guide: &E,
         budget: u32,
         scratch: &mut Scratch,
     ) -> Result<Found, Memory>
         requires fit { IsFit task.now }
+        requires watched { AreWatched task.now (length task.now.ops) watch.now.rows.items }
         requires serves { E.serves guide.now task.now }
         requires at { IsAt task.now (E.may_answer guide.now task.now) budget self.old }
         requires scratch { AreOf task.now scratch.old }
         ensures { IfOk result (HasEnd task.now (E.may_answer guide.now task.now) budget) }
     {
         'turns: loop {
-            let end = self.turn(alloc, task, guide, budget, scratch)?;
+            let end = self.turn(alloc, watch, task, guide, budget, scratch)?;
             if let Some(found) = end {
                 return Ok(found);
             }
@@ -167,18 +179,20 @@ fn begin<E: Estimator>(
 // Searches with these states.
 fn search_with<E: Estimator>(
     alloc: Global,
+    watch: &Watch,
     task: &Task,
     guide: &E,
     budget: u32,
     scratch: &mut Scratch,
 ) -> Result<Found, Memory>
     requires fit { IsFit task.now }
+    requires watched { AreWatched task.now (length task.now.ops) watch.now.rows.items }
     requires serves { E.serves guide.now task.now }
     requires scratch { AreOf task.now scratch.old }
     ensures { IfOk result (HasEnd task.now (E.may_answer guide.now task.now) budget) }
 {
     let mut search = begin(alloc, task, guide, budget, &scratch.first)?;
-    search.take_turns(alloc, task, guide, budget, scratch)
+    search.take_turns(alloc, watch, task, guide, budget, scratch)
 }
 
 /// Searches for a plan: takes the entry of least estimate first, and of those the one that was entered first. The rows of all
@@ -196,7 +210,8 @@ pub fn search<E: Estimator>(
     ensures tells { IfOk result (Tells task.now budget) }
 {
     let mut scratch = Scratch::new(alloc, task)?;
-    let found = search_with(alloc, task, guide, budget, &mut scratch)?;
+    let watch = Watch::of(alloc, task)?;
+    let found = search_with(alloc, &watch, task, guide, budget, &mut scratch)?;
     guide.is_right();
     Ok(found)
 }
