@@ -300,24 +300,37 @@ class Problem:
                 return "goal"
         return None
 
-    def least(self, most=2000000):
-        """The length of a shortest plan, or None where there is none, by search over sets of states."""
+    def shortest(self, most=2000000):
+        """A shortest plan, or None where there is none, by search over sets of states."""
         start = frozenset(self.states())
-        seen, layer, length = {start}, [start], 0
+        came, layer = {start: None}, [start]
         while layer:
             nexts = []
             for belief in layer:
                 if all(self.holds(self.goal, s) for s in belief):
-                    return length
+                    return self.way_to(belief, came)
                 for name, pre, _ in self.actions:
                     if all(self.holds(pre, s) for s in belief):
                         after = frozenset(self.step(name, s) for s in belief)
-                        if after not in seen:
-                            seen.add(after)
+                        if after not in came:
+                            came[after] = belief, name
                             nexts.append(after)
-            layer, length = nexts, length + 1
-            assert len(seen) < most
+            layer = nexts
+            assert len(came) < most
         return None
+
+    @staticmethod
+    def way_to(belief, came):
+        steps = []
+        while came[belief]:
+            belief, name = came[belief]
+            steps.append(name)
+        return steps[::-1]
+
+    def least(self, most=2000000):
+        """The length of a shortest plan, or None where there is none."""
+        plan = self.shortest(most)
+        return None if plan is None else len(plan)
 
     # Clashes, under the pairs of atoms that are never true together.
 
