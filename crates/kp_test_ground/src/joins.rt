@@ -139,7 +139,8 @@ fn has_objects(action: &Action, names: &[&str]) -> bool {
 
 fn begins_with(ground: &Ground, first: &[&str], second: &[&str]) -> bool {
     let actions = ground.actions.slice();
-    has_objects(&actions[0], first) && has_objects(&actions[1], second)
+    matches!(actions.first(), Some(action) if has_objects(action, first))
+        && matches!(actions.get(1), Some(action) if has_objects(action, second))
 }
 
 // The first parameter is slowest, though the last has one object alone.
