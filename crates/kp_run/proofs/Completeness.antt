@@ -44,7 +44,8 @@ use Rattle.kp_run_inputs.specs.SourceTables.{HasTable, by_mode, by_file, no_tabl
 use Rattle.kp_run_inputs.specs.Actions.{HasActions, no_actions, with_actions}
 use Rattle.kp_run_inputs.proofs.Public.{sources_have_one_table, plans_have_one_list, named_is_found_at}
 use Rattle.kp_ktask.proofs.Public.{task_refused_or_within}
-use Rattle.kp_run.specs.Lift.{LiftsActions, lifts, fails, LiftsPlan, no_task, with_task, LiftsTrees, LiftsTexts}
+use Rattle.kp_run_inputs.specs.Tasks.{no_task, with_task}
+use Rattle.kp_run.specs.Lift.{LiftsActions, lifts, fails, LiftsPlan, LiftsTrees, LiftsTexts}
 use Rattle.kp_run.specs.Outcomes.{IsDue}
 use Rattle.kp_run.specs.Ends.{Ends, came, read_failed, no_memory}
 use Rattle.kp_run.specs.Completeness as complete

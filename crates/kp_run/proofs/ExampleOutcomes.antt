@@ -56,7 +56,8 @@ use Rattle.kp_run.proofs.Comes.{due_by, due_makes}
 use Rattle.kp_run_prepare.specs.Texts.{HaveTrees}
 use Rattle.kp_run_prepare.specs.Prepared.{usual, IsStarted, later}
 use Rattle.kp_run_inputs.specs.SourceTables.{by_mode, with_table}
-use Rattle.kp_run.specs.Translate.{translates, done, TranslatesTexts}
+use Rattle.kp_run_inputs.specs.Tasks.{with_task}
+use Rattle.kp_run.specs.Translate.{translates, TranslatesTexts}
 use Rattle.kp_run.specs.Outcomes.{shows_usage, IsDue, usage}
 use Rattle.kp_run.specs.Ends.{Ends, came}
 use Rattle.kp_run.specs.Soundness.{IsSound}
@@ -220,7 +221,7 @@ the_outcome = translates command (ground_of exchange_tree from_p_to_q_tree) the_
 
 is_done : TranslatesTexts command exchange_text from_p_to_q_text [] the_outcome
 is_done = later exchange_tree from_p_to_q_tree trees (record { started = started; clash_free = no_clash })
-    (with_table the_table (by_mode modes.K0 the_table (empty_tag_made exchange_tree from_p_to_q_tree)) (done [] (empty_tags_fit exchange_tree from_p_to_q_tree started.small) (nothing_uncovered (ground_of exchange_tree from_p_to_q_tree) from_p (unconditional from_p_to_q_tree refl) the_table) refl))
+    (with_table the_table (by_mode modes.K0 the_table (empty_tag_made exchange_tree from_p_to_q_tree)) (with_task (empty_tags_fit exchange_tree from_p_to_q_tree started.small) (record { uncovered = []; are = nothing_uncovered (ground_of exchange_tree from_p_to_q_tree) from_p (unconditional from_p_to_q_tree refl) the_table; outcome = refl })))
 
 abbrev held : FileMap
 held = holding exchange_text from_p_to_q_text

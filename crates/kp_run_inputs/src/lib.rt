@@ -1,13 +1,17 @@
-//! What commands make of their other inputs: a table of tags and merges, from a mode or from a file of merges, and the
-//! actions of a plan file. `specs/SourceTables.antt` and `specs/Actions.antt` say what they are, and when a command ends
-//! before it has them.
+//! What commands go on with: a posed problem, with the table of tags and merges of a mode or of a file of merges, with its
+//! task; and the actions of a plan file. `specs/SourceTables.antt`, `specs/Tasks.antt` and `specs/Actions.antt` say what they
+//! are, and when a command ends before it has them.
 #![tactic(auto)]
 
 mod actions;
 mod ending;
 mod laws;
 mod origin;
+mod posed;
+mod tabled;
 mod tables;
+mod tasks;
+mod translated;
 
 pub use actions::actions_of;
 pub use ending::settle;
@@ -16,4 +20,8 @@ pub use laws::{
     sources_go_by_models, sources_have_one_table, tables_are_right,
 };
 pub use origin::Origin;
-pub use tables::{table_alone, table_of};
+pub use posed::Posed;
+pub use tabled::Tabled;
+pub use tables::tabled_of;
+pub use tasks::{texts_of, translated_of};
+pub use translated::Translated;
