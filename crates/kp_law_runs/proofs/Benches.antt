@@ -42,7 +42,7 @@ use Rattle.kp_run_prepare.specs.Prepared.{by_texts, by_trees, early, later}
 use Rattle.kp_run_inputs.specs.SourceTables.{no_table, with_table}
 use Rattle.kp_run_inputs.proofs.Public.{table_of_source_is_for_trees}
 use Rattle.kp_run_solve.specs.Solving.{Finds, spends}
-use Rattle.kp_run_solve.proofs.Public.{ends_are_true, no_plan_is_accepted, steps_named, actions_among_have_names, operator_names_are_steps}
+use Rattle.kp_run_solve.proofs.Public.{ends_are_true, no_plan_is_accepted, steps_named, actions_among_have_names, operator_names_are_steps, both_plans, task_of_trees_fits}
 use Rattle.kp_run_solve.specs.Operators.{acts_among}
 use Rattle.kp_run_bench.specs.Summary.{summary_text}
 use Rattle.kp_run_bench.proofs.Public.{told_actions_are_those_among}
@@ -51,7 +51,7 @@ use Rattle.kp_run_bench.specs.Bench.{texts_of, SumsUp, TellsBench, Benches}
 use Rattle.kp_run.specs.Outcomes.{IsDue}
 use Rattle.kp_run.specs.Ends.{Ends}
 use Rattle.kp_run.specs.Solved.{Tells, its_ground, its_formula, its_task, IsWrittenPlan}
-use Rattle.kp_run.proofs.Public.{both_plans, due_makes, task_of_trees_fits, prepared_is_proper, no_plan_text_tells_complete, IsNoRefusal, not_refused, due_by}
+use Rattle.kp_run.proofs.Public.{due_makes, prepared_is_proper, no_plan_text_tells_complete, IsNoRefusal, not_refused, due_by}
 use Rattle.kp_run_prepare.proofs.Public.{problem_of_trees}
 use Rattle.kp_law_runs.specs.Follows.{IsAnsweredBy}
 use Rattle.kp_law_runs.specs.Bench.{IsPosedBench, IsSolvedBench, HasNoBenchPlan, IsSpentBench, BenchesAreTrue, BenchesAreAnswered}

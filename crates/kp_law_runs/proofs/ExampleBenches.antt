@@ -59,7 +59,10 @@ use Rattle.kp_run_solve.specs.Solving.{Finds}
 use Rattle.kp_run_inputs.specs.Tasks.{with_task}
 use Rattle.kp_run_bench.specs.Bench.{Benches}
 use Rattle.kp_run.specs.Ends.{Ends, came}
-use Rattle.kp_run.proofs.Public.{file_reads_by_computing, empty_tags_fit, empty_tag_made, example_has_state, due_by}
+use Rattle.kp_run_inputs.proofs.Public.{empty_tags_fit, empty_tag_made}
+use Rattle.kp_run.proofs.Public.{due_by}
+use Rattle.kp_law_runs.proofs.Computed.{reads_file as file_reads_by_computing}
+use Rattle.kp_law_runs.proofs.ExampleOutcomes.{has_state as example_has_state}
 use Rattle.kp_law_runs.specs.Bench.{HasNoBenchPlan}
 use Rattle.kp_law_runs.proofs.Benches.{benches_are_true}
 use Rattle.kp_law_runs.proofs.ExampleCourses.{unreached}

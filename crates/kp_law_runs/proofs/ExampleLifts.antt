@@ -38,7 +38,10 @@ use Rattle.kp_run_inputs.specs.Tasks.{with_task}
 use Rattle.kp_run.specs.Translate.{translates, TranslatesTexts}
 use Rattle.kp_run.specs.Ends.{Ends, came}
 use Rattle.kp_run.specs.Completeness.{RanComplete, one_mode, IsOfTheSame, HoldsPlan}
-use Rattle.kp_run.proofs.Public.{clash_free_with_table, example_two_atoms, empty_tags_fit, complete_is_told, empty_tag_made, nothing_uncovered, example_with_limit, example_limited, example_is_limited, example_holding, example_due_with, example_is_small, example_only_p, example_has_state, example_closed_q, example_unconditional, got_after_insert, got_beside_insert}
+use Rattle.kp_run_inputs.proofs.Public.{empty_tags_fit, empty_tag_made, nothing_uncovered}
+use Rattle.kp_run.proofs.Public.{complete_is_told, got_after_insert, got_beside_insert}
+use Rattle.kp_law_runs.proofs.ClashFree.{clash_free_with_table, two_atoms as example_two_atoms}
+use Rattle.kp_law_runs.proofs.ExampleOutcomes.{with_limit as example_with_limit, limited as example_limited, is_limited as example_is_limited, holding as example_holding, due_with as example_due_with, is_small as example_is_small, only_p, has_state as example_has_state, closed_q as example_closed_q, unconditional as example_unconditional}
 use Rattle.kp_run.specs.Solved.{GoesOn}
 use Rattle.kp_law_runs.specs.Commands.{HasLift}
 use Rattle.kp_law_runs.proofs.ExampleFiles.{trees}
@@ -48,8 +51,8 @@ use Rattle.kp_law_runs.proofs.ExampleFiles.{trees}
 abbrev from_p : Initial
 from_p = initial_of exchange_tree from_p_to_q_tree
 
-only_p_is : is_model from_p example_only_p ≡ true
-unfolding example_only_p
+only_p_is : is_model from_p only_p ≡ true
+unfolding only_p
 only_p_is = refl
 
 -- the one clause is in order, and the only prime implicate
@@ -69,7 +72,7 @@ started : IsStarted 1 exchange_tree from_p_to_q_tree
 started = record {
   small = example_is_small (numbered_problem exchange_tree from_p_to_q_tree) refl refl refl refl;
   counted = one_prime;
-  initial = example_has_state exchange_tree from_p_to_q_tree trees.no_fault example_only_p only_p_is;
+  initial = example_has_state exchange_tree from_p_to_q_tree trees.no_fault only_p only_p_is;
 }
 
 no_clash : IsClashFree (ground_of exchange_tree from_p_to_q_tree) from_p

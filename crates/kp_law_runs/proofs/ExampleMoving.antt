@@ -63,14 +63,14 @@ use Rattle.kp_run_prepare.specs.Prepared.{usual, later}
 use Rattle.kp_run_inputs.specs.SourceTables.{by_mode, with_table}
 use Rattle.kp_run_inputs.proofs.Public.{table_of_source_is_for_trees}
 use Rattle.kp_run_solve.specs.Solving.{Finds}
-use Rattle.kp_run_solve.proofs.Public.{ends_are_true}
+use Rattle.kp_run_solve.proofs.Public.{ends_are_true, task_of_trees_fits}
 use Rattle.kp_run_bench.specs.Summary.{summary_text}
 use Rattle.kp_run_bench.specs.Working.{IsSafe}
 use Rattle.kp_run_inputs.specs.Tasks.{with_task}
 use Rattle.kp_run_bench.specs.Bench.{Benches}
 use Rattle.kp_run_bench.proofs.Public.{succeeding_actions_are_plan}
 use Rattle.kp_run.specs.Ends.{Ends, came}
-use Rattle.kp_run.proofs.Public.{task_of_trees_fits, prepared_is_proper as proper, due_by}
+use Rattle.kp_run.proofs.Public.{prepared_is_proper as proper, due_by}
 use Rattle.kp_run_prepare.proofs.Public.{problem_of_trees}
 use Rattle.kp_law_runs.specs.Bench.{IsSolvedBench}
 use Rattle.kp_law_runs.proofs.Benches.{benches_are_true}

@@ -41,13 +41,15 @@ use Rattle.kp_words.specs.Owned.{bare}
 use Rattle.kp_run_prepare.specs.Texts.{HaveTrees}
 use Rattle.kp_run_prepare.specs.Prepared.{IsPrepared, later}
 use Rattle.kp_run_inputs.specs.SourceTables.{HasTable, by_mode, with_table}
-use Rattle.kp_run_inputs.proofs.Public.{table_of_source_is_for_trees}
+use Rattle.kp_run_inputs.proofs.Public.{table_of_source_is_for_trees, empty_tags_fit, empty_tag_made, nothing_uncovered}
 use Rattle.kp_run_inputs.specs.Tasks.{with_task}
 use Rattle.kp_run_solve.specs.Solving.{Finds, solves, spends, AreNamed, TellsSolved}
 use Rattle.kp_run_messages.specs.Searches.{no_plan_text}
+use Rattle.kp_run_solve.proofs.Public.{task_of_trees_fits}
 use Rattle.kp_run.specs.Solve.{SolvesTexts}
 use Rattle.kp_run.specs.Ends.{Ends, came}
-use Rattle.kp_run.proofs.Public.{empty_tags_fit, empty_tag_made, nothing_uncovered, example_holding, example_unconditional, got_after_insert, got_beside_insert, task_of_trees_fits, due_by, held_alone}
+use Rattle.kp_run.proofs.Public.{got_after_insert, got_beside_insert, due_by, held_alone}
+use Rattle.kp_law_runs.proofs.ExampleOutcomes.{holding as example_holding, unconditional as example_unconditional}
 use Rattle.kp_run_prepare.proofs.Public.{problem_of_trees}
 use Rattle.kp_run.specs.Solved.{IsSolved, HasNoPlan, IsSpent}
 use Rattle.kp_law_runs.proofs.Solvings.{solved_is_a_plan, no_plan_is_true, spent_is_true}

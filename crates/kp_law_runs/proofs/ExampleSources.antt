@@ -46,7 +46,9 @@ use Rattle.kp_run.specs.Solve.{SolvesTexts}
 use Rattle.kp_run.specs.Ends.{Ends, came}
 use Rattle.kp_run.specs.Completeness.{PrintsComplete, RanComplete, one_text, IsOfTheSame, HoldsPlan}
 use Rattle.kp_run.specs.Solved.{Tells}
-use Rattle.kp_run.proofs.Public.{empty_tags_fit, table_of_none, empty_tag_made_in_modes, nothing_uncovered, complete_is_told, example_exchange_action, example_holding, example_due_with, example_unconditional, got_after_insert, got_beside_insert, due_by, held_alone}
+use Rattle.kp_run_inputs.proofs.Public.{empty_tags_fit, table_of_none, empty_tag_made_in_modes, nothing_uncovered}
+use Rattle.kp_run.proofs.Public.{complete_is_told, got_after_insert, got_beside_insert, due_by, held_alone}
+use Rattle.kp_law_runs.proofs.ExampleOutcomes.{exchange_action as example_exchange_action, holding as example_holding, due_with as example_due_with, unconditional as example_unconditional}
 use Rattle.kp_law_runs.specs.Solve.{GivenHaveNoPlan}
 use Rattle.kp_law_runs.proofs.SomeModes.{some_modes_tell_complete, no_plan_in_some_modes}
 use Rattle.kp_law_runs.proofs.ExampleFiles.{trees, prepared, to_both, to_both_tree, both_trees, both_prepared}

@@ -23,6 +23,7 @@ use Rattle.kp_check.specs.declared.answer.Judged.{Judged}
 use Rattle.kp_check.specs.declared.answer.Judged.TheVariants.{Yes, No}
 use Rattle.kp_law_translation.specs.OfTrees.{ground_of, initial_of}
 use Rattle.kp_run_inputs.specs.Tasks.{with_task}
+use Rattle.kp_run_solve.proofs.Public.{machine_lines_read}
 use Rattle.kp_run.specs.Translate.{TranslatesTexts, translates}
 use Rattle.kp_run.specs.Strip.{strips}
 use Rattle.kp_run.specs.Lift.{LiftsActions, lifts, fails}
@@ -50,7 +51,7 @@ use Rattle.kp_run_inputs.specs.SourceTables.{by_mode, with_table}
 use Rattle.kp_run_inputs.specs.Actions.{with_actions}
 use Rattle.kp_run_inputs.proofs.Public.{found_numbers_are_actions, found_actions_are_named, as_many_found_as_steps, table_of_source_is_for_trees}
 use Rattle.kp_run.specs.Completeness.{PrintsComplete}
-use Rattle.kp_run.proofs.Public.{complete_text_leaves_none as none_told, complete_is_told, prepared_is_proper, machine_lines_read, due_by, held_alone, named_merges_held}
+use Rattle.kp_run.proofs.Public.{complete_text_leaves_none as none_told, complete_is_told, prepared_is_proper, due_by, held_alone, named_merges_held}
 use Rattle.kp_run_prepare.proofs.Public.{problem_of_trees}
 use Rattle.kp_run.specs.Solved.{GoesOn}
 use Rattle.kp_law_runs.specs.Commands.{HasTranslation, TranslationsAreAnswered, CompleteIsTrue, MergesAreListed, ClashesAreAnswered, HasVerdict, ChecksAreAnswered, ChecksAreTrue, HasLift, LiftsAreAnswered, LiftsAreTrue, LiftedLinesStrip, StripsAreAnswered}

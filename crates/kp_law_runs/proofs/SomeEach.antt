@@ -39,6 +39,7 @@ use Rattle.kp_run_inputs.proofs.Public.{found_numbers_are_actions, by_table_some
 use Rattle.kp_law_tagged_machine.proofs.Public.{lists_lift_or_fail, no_clash_under_exclusive_pairs as never_clashes}
 use Rattle.kp_run_messages.specs.Lifting.{unlifted_text}
 use Rattle.kp_run_solve.specs.Solving.{Searches, TellsSolved, SolvesGround}
+use Rattle.kp_run_solve.proofs.Public.{task_of_trees_fits}
 use Rattle.kp_run.specs.Translate.{translates, IsPut, TranslatesGround, TranslatesTrees}
 use Rattle.kp_run.specs.Solve.{SolvesTrees}
 use Rattle.kp_run.specs.Strip.{StripsText, too_long, no_plan, no_strip, strips}
@@ -50,7 +51,6 @@ use Rattle.kp_run_inputs.specs.SourceTables.{HasTable}
 use Rattle.kp_run_inputs.specs.Actions.{ComesByPlan}
 use Rattle.kp_run_bench.specs.Bench.{TellsBench, BenchesGround, BenchesTrees}
 use Rattle.kp_law_runs.proofs.SomeSearch.{some_search, some_bench}
-use Rattle.kp_run.proofs.Public.{task_of_trees_fits}
 
 -- as many of merges as the command names, by its source
 by_source : (c : Asked) (merges : List (List ℕ)) → length merges ≡ length (if_named c.merges) → length merges ≡ length (if_named (file_of (source_of c)))

@@ -25,7 +25,7 @@ use Rattle.kp_run_outcome.specs.declared.outcome.Outcome.{Outcome}
 use Rattle.kp_run_outcome.specs.Printing.{prints, denies}
 use Rattle.kp_run_prepare.specs.Refusing.{refuses}
 use Rattle.kp_run_classical.specs.Classical.{classical, IsCertain, IsSmall, IsClassicalProblem, RefusesClassical, not_classical, too_large, no_initial_state, by_texts, by_trees, ComesClassical, early, later, task_of as classical_task}
-use Rattle.kp_run_classical.proofs.Public.{classical_successes_have_names as actions_named}
+use Rattle.kp_run_classical.proofs.Public.{classical_successes_have_names as actions_named, classical_task_fits}
 use Rattle.kp_run_solve.specs.Solving.{Finds, Searches, solves, spends, TellsSolved, SolvesClassical}
 use Rattle.kp_search.proofs.Public.{has_some_end_by_added}
 use Rattle.kp_run_solve.proofs.Public.{ends_are_true, operators_have_names}
@@ -35,7 +35,6 @@ use Rattle.kp_run_bench.specs.Summary.{summary_text}
 use Rattle.kp_run_bench.specs.Bench.{TellsBench}
 use Rattle.kp_run_bench.specs.Working.{IsSafe}
 use Rattle.kp_run_bench.proofs.Public.{succeeding_actions_are_plan, plan_is_told}
-use Rattle.kp_run.proofs.Public.{classical_task_fits}
 use Rattle.kp_law_runs.proofs.SomeStart.{texts_decided}
 
 -- ---- a ground problem with a table

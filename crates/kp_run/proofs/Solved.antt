@@ -46,7 +46,7 @@ use Rattle.kp_run_inputs.specs.SourceTables.{HasTable, no_table, with_table}
 use Rattle.kp_run_inputs.proofs.Public.{table_of_source_is_for_trees}
 use Rattle.kp_run_inputs.specs.Tasks.{no_task, with_task}
 use Rattle.kp_run_solve.specs.Solving.{Finds, solves, spends, TellsSolved, SolvesGround}
-use Rattle.kp_run_solve.proofs.Public.{ends_are_true, no_plan_is_accepted}
+use Rattle.kp_run_solve.proofs.Public.{ends_are_true, no_plan_is_accepted, both_plans, task_of_trees_fits as task_fits, action_lines_read as actions_read, machine_lines_read as steps_read}
 use Rattle.kp_run.specs.Solve.{SolvesTexts}
 use Rattle.kp_run.specs.Outcomes.{IsDue}
 use Rattle.kp_run.specs.Completeness.{PrintsComplete}
@@ -55,11 +55,8 @@ use Rattle.kp_run_prepare.proofs.Public.{problem_of_trees, usual_ground_is_of_it
 use Rattle.kp_names_semantics.specs.Faults.{HasNoFault}
 use Rattle.kp_names_semantics.specs.Numbering.{numbered_problem}
 use Rattle.kp_run.specs.Solved.{GoesOn, IsPosed, its_ground, its_formula, its_task, IsWrittenPlan, with_named, IsSolved, HasNoPlan, IsSpent, SolveIsTrue}
-use Rattle.kp_run.proofs.BothPlans.{both_plans}
 use Rattle.kp_run.proofs.Reading.{content_held, merges_held}
 use Rattle.kp_run.proofs.Comes.{due_makes}
-use Rattle.kp_run.proofs.Fitting.{task_fits}
-use Rattle.kp_run.proofs.PlanLines.{actions_read, steps_read}
 use Rattle.kp_run.proofs.Whole.{IsCarriedOut, did, IsNoRefusal, not_refused}
 
 -- ---- the problem

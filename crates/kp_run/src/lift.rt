@@ -59,7 +59,7 @@ fn lift_actions(
     ensures { IfOk result (LiftsActions (ground_in translated.now.tabled) translated.now.tabled.table numbers.now) }
 {
     let tabled = &translated.tabled;
-    let ground = &tabled.posed.prepared.ground;
+    let ground = &tabled.related.prepared.ground;
     let lifting = lift(alloc, ground, &tabled.table, &translated.task, numbers)?;
     match lifting {
         Lifting::Lifted(operators) => tell_lifted(alloc, &translated.task, &operators),
@@ -74,7 +74,7 @@ fn lift_plan(alloc: Global, translated: &Translated, plan: Got) -> Result<Outcom
     requires { IsWithin most_bytes plan }
     ensures { (text : List ℕ) → IsFront (Some text) most_bytes plan → IfOk result (ComesByPlan (ground_in translated.now.tabled) text (LiftsActions (ground_in translated.now.tabled) translated.now.tabled.table)) }
 {
-    match actions_of(alloc, &translated.tabled.posed.prepared, plan) {
+    match actions_of(alloc, &translated.tabled.related.prepared, plan) {
         Ok(numbers) => lift_actions(alloc, translated, &numbers),
         Err(early) => settle(early),
     }

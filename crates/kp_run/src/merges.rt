@@ -37,7 +37,7 @@ pub fn merges_on(
         problem,
         Origin::Mode(asked.mode),
     ) {
-        Ok(tabled) => list(alloc, &tabled.posed.prepared.ground, &tabled.table),
+        Ok(tabled) => list(alloc, &tabled.related.prepared.ground, &tabled.table),
         Err(early) => settle(early),
     }
 }

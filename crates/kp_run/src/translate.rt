@@ -11,7 +11,7 @@ use crate::outcomes::translates;
 use kp_base::Memory;
 use kp_ktask_texts::Translation;
 use kp_outside::Got;
-use kp_run_inputs::{Origin, Tabled, settle, tabled_of, texts_of};
+use kp_run_inputs::{Origin, Tabled, settle, tabled_of, written_of};
 use kp_run_outcome::Outcome;
 use kp_words::Asked;
 use std::alloc::Global;
@@ -30,7 +30,7 @@ fn put_texts(
     translates(
         alloc,
         command,
-        &tabled.posed.prepared.ground,
+        &tabled.related.prepared.ground,
         translation,
         coverage.uncovered.slice(),
     )
@@ -40,7 +40,7 @@ fn put_texts(
 fn translate_with(alloc: Global, command: &Asked<'_>, tabled: &Tabled) -> Result<Outcome, Memory>
     ensures { IfOk result (TranslatesGround command.now (ground_in tabled.now) (formula_in tabled.now) tabled.now.table) }
 {
-    match texts_of(alloc, tabled) {
+    match written_of(alloc, tabled) {
         Ok(translation) => put_texts(alloc, command, tabled, translation),
         Err(early) => settle(early),
     }

@@ -9,7 +9,7 @@ ghost use Rattle.kp_base.specs.Files.{most_bytes};
 use crate::outcomes::print_text;
 use kp_base::{Ground, Limits, Memory, Row};
 use kp_outside::Got;
-use kp_run_inputs::{Posed, settle};
+use kp_run_inputs::{Related, settle};
 use kp_run_messages::{over, width_report};
 use kp_run_outcome::{Outcome, Status};
 use kp_run_prepare::{Prepared, ended_in, prepare};
@@ -43,13 +43,13 @@ fn tell_width(
 fn measure(alloc: Global, prepared: Prepared, bound: u32) -> Result<Outcome, Memory>
     ensures { (i : Formula) → HaveSameModels (formula prepared.primes) i → IfOk result (WidthGround bound prepared.ground i) }
 {
-    let posed = Posed::of(alloc, prepared)?;
-    let prepared = &posed.prepared;
+    let related = Related::of(alloc, prepared)?;
+    let prepared = &related.prepared;
     match width(
         alloc,
         &prepared.ground,
         &prepared.primes,
-        &posed.relevance,
+        &related.relevance,
         bound,
         &Limits::usual(),
     ) {

@@ -27,7 +27,7 @@ fn counts_of(alloc: Global, translated: &Translated) -> Result<Row<u8>, Memory>
     ensures { IfOk result (λ counts. counts ≡ (translation_with (ground_in translated.now.tabled) translated.now.tabled.table).counts) }
 {
     let tabled = &translated.tabled;
-    let ground = &tabled.posed.prepared.ground;
+    let ground = &tabled.related.prepared.ground;
     match translation_with(alloc, ground, &tabled.table, &Limits::usual()) {
         Ok(translation) => Ok(translation.counts),
         Err(Stop::Refused(_)) => unreachable!(),
@@ -61,7 +61,7 @@ fn sum_up(
     let text = summary(
         alloc,
         command,
-        &translated.tabled.posed.prepared.ground,
+        &translated.tabled.related.prepared.ground,
         counts.slice(),
         coverage.uncovered.slice(),
         steps,
@@ -82,7 +82,7 @@ fn tell_plan(
     requires plan { ArePlan translated.now.task operators.now }
     ensures { IfOk result (SumsUp command.now (ground_in translated.now.tabled) (formula_in translated.now.tabled) translated.now.tabled.table operators.now expanded) }
 {
-    let prepared = &translated.tabled.posed.prepared;
+    let prepared = &translated.tabled.related.prepared;
     let numbers = actions_among(alloc, &prepared.ground, operators.slice())?;
     match judge(alloc, prepared, &numbers)? {
         Judged::Yes => sum_up(alloc, command, translated, numbers.len(), expanded),

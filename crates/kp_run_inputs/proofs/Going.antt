@@ -48,8 +48,8 @@ module _ (limit : ℕ) (x y : List ℕ) (source : Source) (merges : List (List �
   by_trees m w r h = subst (λ g. AnswersTable g (initial_of w.first w.second) source merges r) w.ground (answer_by m.ground (formula m.primes) (initial_of w.first w.second) source merges r w.primes.same_models h)
 
   -- there is a table
-  pub tabled : (t : Tabled) → IsPreparedOf limit x y t.posed.prepared → AnswersTable (ground_in t) (formula_in t) source merges (Ok t.table) → IsTabledOf limit x y source merges t
-  tabled t w h = record { prepared = w; has_table = by_trees t.posed.prepared w (Ok t.table) h }
+  pub tabled : (t : Tabled) → IsPreparedOf limit x y t.related.prepared → AnswersTable (ground_in t) (formula_in t) source merges (Ok t.table) → IsTabledOf limit x y source merges t
+  tabled t w h = record { prepared = w; has_table = by_trees t.related.prepared w (Ok t.table) h }
 
   -- there is none
   pub not_tabled : (m : Made) → IsPreparedOf limit x y m → (e : Early) → AnswersTable m.ground (formula m.primes) source merges (Err e) → AnswersTabled limit x y source merges (Err e)

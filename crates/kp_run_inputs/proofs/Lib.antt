@@ -13,3 +13,4 @@ pub mod Going
 pub mod Origins
 pub mod TablesFor
 pub mod Named
+pub mod EmptyTags

@@ -13,15 +13,15 @@ use Rattle.kp_run_inputs.specs.SourceTables.{HasTable, EndsAtTable}
 
 -- its ground problem
 abbrev pub ground_in : Tabled → Ground
-ground_in t = t.posed.prepared.ground
+ground_in t = t.related.prepared.ground
 
 -- the formula of its prime implicates
 abbrev pub formula_in : Tabled → Initial
-formula_in t = formula t.posed.prepared.primes
+formula_in t = formula t.related.prepared.primes
 
 -- it is that of two texts, with the table of a source
 pub record IsTabledOf (limit : ℕ) (domain problem : List ℕ) (source : Source) (merges : List (List ℕ)) (t : Tabled) : Type 0 where
-  pub prepared : IsPreparedOf limit domain problem t.posed.prepared
+  pub prepared : IsPreparedOf limit domain problem t.related.prepared
   pub has_table : HasTable (ground_of prepared.first prepared.second) (initial_of prepared.first prepared.second) source merges t.table
 
 -- what is answered: this, or the outcome with which a command ends early or since there is no table; want of memory is free

@@ -1,4 +1,4 @@
-//! A posed problem, and beside it a table of tags and merges.
+//! A problem with its relevance, and beside it a table of tags and merges.
 ghost use Rattle.std.specs.Prelude.{◌<◌, IfOk, length};
 ghost use Rattle.kp_base.specs.declared.ground.Merge.{Merge};
 ghost use Rattle.kp_base.specs.Entailed.{AreValid, IsTable};
@@ -7,34 +7,34 @@ ghost use Rattle.kp_cover.specs.Coverage.{AnswersCoverage};
 ghost use Rattle.kp_primes.specs.Held.{formula};
 ghost use Rattle.kp_run_inputs.specs.Props.{IsTable-prop};
 
-use crate::posed::Posed;
+use crate::related::Related;
 use kp_base::{Memory, TagTable};
 use kp_cover::{Coverage, coverage};
 use std::alloc::Global;
 
-/// A posed problem with a table of tags and merges, which is right, and whose merges are valid.
+/// A problem with a table of tags and merges, which is right, and whose merges are valid.
 #[derive(Drop)]
 pub struct Tabled {
     /// The problem.
-    pub posed: Posed,
+    pub related: Related,
     /// The table.
     pub table: TagTable,
-    pub ghost right: { IsTable posed.prepared.ground (formula posed.prepared.primes) table } by { IsTable-prop posed.prepared.ground (formula posed.prepared.primes) table },
-    pub ghost valid: { AreValid (formula posed.prepared.primes) table },
-    pub ghost targets: { (m : Merge) → Member table.merges m → m.target.atom.0 < length posed.prepared.ground.atoms },
+    pub ghost right: { IsTable related.prepared.ground (formula related.prepared.primes) table } by { IsTable-prop related.prepared.ground (formula related.prepared.primes) table },
+    pub ghost valid: { AreValid (formula related.prepared.primes) table },
+    pub ghost targets: { (m : Merge) → Member table.merges m → m.target.atom.0 < length related.prepared.ground.atoms },
 }
 
 impl Tabled {
     /// Which targets the table covers.
     pub fn coverage(&self, alloc: Global) -> Result<Coverage, Memory>
-        ensures { IfOk result (AnswersCoverage self.now.posed.prepared.ground (formula self.now.posed.prepared.primes) self.now.table) }
+        ensures { IfOk result (AnswersCoverage self.now.related.prepared.ground (formula self.now.related.prepared.primes) self.now.table) }
     {
-        let prepared = &self.posed.prepared;
+        let prepared = &self.related.prepared;
         coverage(
             alloc,
             &prepared.ground,
             &prepared.primes,
-            &self.posed.relevance,
+            &self.related.relevance,
             &self.table,
         )
     }

@@ -10,7 +10,7 @@ ghost use Rattle.kp_run_inputs.specs.SourceTables.{IsOrigin, IsShort, AnswersTab
 ghost use Rattle.kp_run_inputs.specs.Tabled.{AnswersTabled};
 
 use crate::origin::Origin;
-use crate::posed::Posed;
+use crate::related::Related;
 use crate::tabled::Tabled;
 use kp_base::{Limits, Mode, Part, Refused, Row, Stop, TagTable};
 use kp_outside::Got;
@@ -20,16 +20,16 @@ use kp_tags_files::{FileMerge, read_merges};
 use std::alloc::Global;
 
 // The table of a mode.
-fn table_in(alloc: Global, posed: &Posed, mode: Mode) -> Result<TagTable, Early>
-    ensures { AnswersTable posed.now.prepared.ground (formula posed.now.prepared.primes) (of_mode mode) [] result }
+fn table_in(alloc: Global, related: &Related, mode: Mode) -> Result<TagTable, Early>
+    ensures { AnswersTable related.now.prepared.ground (formula related.now.prepared.primes) (of_mode mode) [] result }
 {
-    let prepared = &posed.prepared;
+    let prepared = &related.prepared;
     match make(
         alloc,
         mode,
         &prepared.ground,
         &prepared.primes,
-        &posed.relevance,
+        &related.relevance,
         &Limits::usual(),
     ) {
         Ok(table) => Ok(table),
@@ -63,13 +63,13 @@ fn table_with(alloc: Global, prepared: &Prepared, merges: Got) -> Result<TagTabl
 }
 
 // The table of a mode or of a file of merges.
-fn table_of(alloc: Global, posed: &Posed, origin: Origin) -> Result<TagTable, Early>
+fn table_of(alloc: Global, related: &Related, origin: Origin) -> Result<TagTable, Early>
     requires { IsShort origin }
-    ensures { (source : Source) (merges : List (List ℕ)) → IsOrigin source merges origin → AnswersTable posed.now.prepared.ground (formula posed.now.prepared.primes) source merges result }
+    ensures { (source : Source) (merges : List (List ℕ)) → IsOrigin source merges origin → AnswersTable related.now.prepared.ground (formula related.now.prepared.primes) source merges result }
 {
     match origin {
-        Origin::Mode(mode) => table_in(alloc, posed, mode),
-        Origin::Merges(merges) => table_with(alloc, &posed.prepared, merges),
+        Origin::Mode(mode) => table_in(alloc, related, mode),
+        Origin::Merges(merges) => table_with(alloc, &related.prepared, merges),
     }
 }
 
@@ -78,9 +78,9 @@ fn with_table(alloc: Global, prepared: Prepared, origin: Origin) -> Result<Table
     requires { IsShort origin }
     ensures { (limit : ℕ) (d p : List ℕ) (source : Source) (merges : List (List ℕ)) → IsPreparedOf limit d p prepared → IsOrigin source merges origin → AnswersTabled limit d p source merges result }
 {
-    let posed = Posed::of(alloc, prepared)?;
-    match table_of(alloc, &posed, origin) {
-        Ok(table) => Ok(Tabled { posed, table }),
+    let related = Related::of(alloc, prepared)?;
+    match table_of(alloc, &related, origin) {
+        Ok(table) => Ok(Tabled { related, table }),
         Err(early) => Err(early),
     }
 }

@@ -14,7 +14,7 @@ use std::alloc::Global;
 pub fn translated_of(alloc: Global, tabled: Tabled) -> Result<Translated, Early>
     ensures { AnswersTask tabled result }
 {
-    let ground = &tabled.posed.prepared.ground;
+    let ground = &tabled.related.prepared.ground;
     match translate(alloc, ground, &tabled.table, &Limits::usual()) {
         Ok(task) => Ok(Translated { tabled, task }),
         Err(stop) => Err(ended_by(alloc, stop)),
@@ -22,10 +22,10 @@ pub fn translated_of(alloc: Global, tabled: Tabled) -> Result<Translated, Early>
 }
 
 /// What is written of the task; or that outcome.
-pub fn texts_of(alloc: Global, tabled: &Tabled) -> Result<Translation, Early>
+pub fn written_of(alloc: Global, tabled: &Tabled) -> Result<Translation, Early>
     ensures { AnswersTexts (ground_in tabled.now) tabled.now.table result }
 {
-    let ground = &tabled.posed.prepared.ground;
+    let ground = &tabled.related.prepared.ground;
     match translation_with(alloc, ground, &tabled.table, &Limits::usual()) {
         Ok(translation) => Ok(translation),
         Err(stop) => Err(ended_by(alloc, stop)),

@@ -15,6 +15,6 @@ pub struct Translated {
     pub tabled: Tabled,
     /// Their task.
     pub task: Task,
-    pub ghost is_task: { task ≡ task_of tabled.posed.prepared.ground tabled.table } by { Coded-set task-code task (task_of tabled.posed.prepared.ground tabled.table) },
-    pub ghost fits: { FitsLimits (task_of tabled.posed.prepared.ground tabled.table) usual },
+    pub ghost is_task: { task ≡ task_of tabled.related.prepared.ground tabled.table } by { Coded-set task-code task (task_of tabled.related.prepared.ground tabled.table) },
+    pub ghost fits: { FitsLimits (task_of tabled.related.prepared.ground tabled.table) usual },
 }

@@ -12,3 +12,9 @@ pub use Rattle.kp_run_solve.proofs.Plans.{named_accepted as named_plans_are_acce
 pub use Rattle.kp_run_solve.proofs.Told.{found_told as search_is_told}
 -- ---- What the end of a search says of its task is true.
 pub use Rattle.kp_run_solve.proofs.Searches.{ends_true as ends_are_true}
+-- ---- The task of two trees and a table within the limits is fit to be searched.
+pub use Rattle.kp_run_solve.proofs.Fitting.{task_fits as task_of_trees_fits}
+-- ---- A plan of the written files, with the plan of the given texts that it strips to.
+pub use Rattle.kp_run_solve.proofs.BothPlans.{both_plans}
+-- ---- The lines that are printed of a plan read as its steps.
+pub use Rattle.kp_run_solve.proofs.PlanLines.{actions_read as action_lines_read, steps_read as machine_lines_read}

@@ -87,7 +87,7 @@ fn tell_operators(
     requires { list_all (λ n. nat_lt n (length translated.now.task.ops)) operators.now ≡ true }
     ensures { IfOk result (λ o. (written : _) × (plan : _) × AreNamed (ground_in translated.now.tabled) translated.now.tabled.table operators.now written plan × (o ≡ solves (option_map (λ n. n.now) name.entry) written plan)) }
 {
-    let ground = &translated.tabled.posed.prepared.ground;
+    let ground = &translated.tabled.related.prepared.ground;
     let written = steps_of(alloc, &translated.task, operators)?;
     let plan = actions_among(alloc, ground, operators.slice())?;
     tell_plan(alloc, name, written, &plan)

@@ -28,7 +28,7 @@ returns c =
     let a = c.args.command.now in
     let ns = c.in_ok-numbers.numbers in
     plan_told a g i t.table c.args.operators.now ns c.args.expanded c.sum_up.result (c.in_ok-numbers.ensures ∙ ap (acts_among (length g.actions)) c.slice.ensures)
-    (subst (IsVerdict t.posed.prepared.primes.atoms g i ns) c.in-Yes.is c.in_ok-judge.ensures)
+    (subst (IsVerdict t.related.prepared.primes.atoms g i ns) c.in-Yes.is c.in_ok-judge.ensures)
     (subst (λ n. IfOk c.sum_up.result (λ o. (uncovered : List Lit) × AreUncovered g i t.table uncovered × (o ≡ prints (summary_text a g t.table uncovered n c.args.expanded)))) c.len.ensures c.sum_up.ensures)
 
 -- it can't say no
@@ -40,4 +40,4 @@ unreachable-requires c =
     let i = formula_in t in
     let ns = c.in_ok-numbers.numbers in
     let works = subst (IsGroundPlan g i) (sym (c.in_ok-numbers.ensures ∙ ap (acts_among (length g.actions)) c.slice.ensures)) (work g i t.table c.args.operators.now c.requires.safe (subst (λ task. ArePlan task c.args.operators.now) x.is_task c.requires.plan)) in
-    pass t.posed.prepared.primes.atoms g i ns _ _ _ works (subst (IsVerdict t.posed.prepared.primes.atoms g i ns) c.in-No.is c.in_ok-judge.ensures)
+    pass t.related.prepared.primes.atoms g i ns _ _ _ works (subst (IsVerdict t.related.prepared.primes.atoms g i ns) c.in-No.is c.in_ok-judge.ensures)

@@ -3,7 +3,7 @@ use Rattle.kp_law_ktask.specs.Task.{task_of}
 use Rattle.kp_ktask.specs.Translated.{FitsLimits, StopsTask}
 use Rattle.kp_run_inputs.specs.Tabled.{ground_in}
 use Rattle.kp_run_inputs.proofs.Going.{task_stops}
-use Rattle.kp_run_inputs.proofs.tasks.texts_of.Goals as goal
+use Rattle.kp_run_inputs.proofs.tasks.written_of.Goals as goal
 
 -- the task is within the limits
 pub returns-in-Ok : goal.returns-in-Ok

@@ -21,7 +21,7 @@ use Rattle.kp_base.specs.Planning.{Member, positive, negative, IsAscending, Stat
 use Rattle.kp_primes.specs.Included.{all_included}
 use Rattle.kp_primes.proofs.Public.{counted_is_never_over}
 use Rattle.kp_law_tagged_machine.proofs.Public.{swap_is_clash_free}
-use Rattle.kp_run.proofs.ClashFree.{clash_free_with_table, two_atoms}
+use Rattle.kp_law_runs.proofs.ClashFree.{clash_free_with_table, two_atoms}
 use Rattle.kp_lex.specs.Bytes.{class_of}
 use Rattle.kp_lex.specs.Scanning.{cut_from}
 use Rattle.kp_tree_grammar.specs.Symbols.{symbol_of}
@@ -51,8 +51,7 @@ use Rattle.kp_words.specs.declared.verb.Verb.TheVariants as verbs
 use Rattle.kp_words.specs.Command.{IsCall}
 use Rattle.kp_words.proofs.Public.{no_words_are_no_command, example_two_apart, call_by_words, files_by_computing, usual_numbers, nothing_generated}
 use Rattle.kp_words.specs.Owned.{bare}
-use Rattle.kp_run.proofs.Reading.{content_held, held_alone}
-use Rattle.kp_run.proofs.Comes.{due_by, due_makes}
+use Rattle.kp_run.proofs.Public.{content_held, held_alone, due_by, due_makes, got_after_insert as at_last, got_beside_insert as under_another, done_is_sound as sound_end}
 use Rattle.kp_run_prepare.specs.Texts.{HaveTrees}
 use Rattle.kp_run_prepare.specs.Prepared.{usual, IsStarted, later}
 use Rattle.kp_run_inputs.specs.SourceTables.{by_mode, with_table}
@@ -61,10 +60,8 @@ use Rattle.kp_run.specs.Translate.{translates, TranslatesTexts}
 use Rattle.kp_run.specs.Outcomes.{shows_usage, IsDue, usage}
 use Rattle.kp_run.specs.Ends.{Ends, came}
 use Rattle.kp_run.specs.Soundness.{IsSound}
-use Rattle.kp_run.proofs.Counted.{empty_tags_fit}
-use Rattle.kp_run.proofs.EmptyTags.{HaveNoConditions, empty_tag_made, nothing_uncovered}
-use Rattle.kp_run.proofs.Computed.{reads_file}
-use Rattle.kp_run.proofs.Soundness.{at_last, under_another, sound_end}
+use Rattle.kp_run_inputs.proofs.Public.{empty_tags_fit, HaveNoConditions, empty_tag_made, nothing_uncovered}
+use Rattle.kp_law_runs.proofs.Computed.{reads_file}
 
 -- ---- words
 

@@ -18,7 +18,7 @@ use Rattle.kp_primes.specs.Answers.{RefusesPrimes, too_many}
 use Rattle.kp_primes.proofs.Public.{counted_is_never_over, prefix_stops_the_build}
 use Rattle.kp_clash.proofs.Public.{first_found_is_first_clash}
 use Rattle.kp_law_tagged_machine.proofs.Public.{swap_is_clash_free}
-use Rattle.kp_run.proofs.ClashFree.{clash_free_with_table, two_atoms}
+use Rattle.kp_law_runs.proofs.ClashFree.{clash_free_with_table, two_atoms}
 use Rattle.kp_lex.specs.Bytes.{class_of}
 use Rattle.kp_lex.specs.Cutting.{at_end}
 use Rattle.kp_lex.specs.Scanning.{cut_from}
@@ -49,10 +49,9 @@ use Rattle.kp_run_inputs.specs.SourceTables.{by_mode, with_table}
 use Rattle.kp_run_inputs.specs.Tasks.{with_task}
 use Rattle.kp_run.specs.Translate.{translates, TranslatesTexts}
 use Rattle.kp_run.specs.Outcomes.{IsDue}
-use Rattle.kp_run.proofs.Counted.{empty_tags_fit}
-use Rattle.kp_run.proofs.Computed.{reads_file}
-use Rattle.kp_run.proofs.ExampleOutcomes.{closed_q, command, domain_reads, due_with, few_primes, has_state, holding, is_limited, is_small, limited, on_files, only_p, unconditional, with_limit, words}
-use Rattle.kp_run.proofs.EmptyTags.{empty_tag_made, nothing_uncovered}
+use Rattle.kp_run_inputs.proofs.Public.{empty_tags_fit, empty_tag_made, nothing_uncovered}
+use Rattle.kp_law_runs.proofs.Computed.{reads_file}
+use Rattle.kp_law_runs.proofs.ExampleOutcomes.{closed_q, command, domain_reads, due_with, few_primes, has_state, holding, is_limited, is_small, limited, on_files, only_p, unconditional, with_limit, words}
 
 -- ---- refusals: no initial state
 

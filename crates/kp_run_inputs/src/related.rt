@@ -9,7 +9,7 @@ use std::alloc::Global;
 
 /// A prepared problem, with what is relevant in it.
 #[derive(Drop)]
-pub struct Posed {
+pub struct Related {
     /// The ground problem and its prime implicates.
     pub prepared: Prepared,
     /// Which of its literals are relevant to which.
@@ -17,13 +17,13 @@ pub struct Posed {
     pub ghost pairs: { ∥ ArePairsOf prepared.ground relevance ∥₁ },
 }
 
-impl Posed {
+impl Related {
     /// Finds what is relevant in a prepared problem.
-    pub fn of(alloc: Global, prepared: Prepared) -> Result<Posed, Memory>
+    pub fn of(alloc: Global, prepared: Prepared) -> Result<Related, Memory>
         ensures { IfOk result (λ x. x.prepared ≡ prepared) }
     {
         let relevance = Relevance::of(alloc, &prepared.ground)?;
-        Ok(Posed {
+        Ok(Related {
             prepared,
             relevance,
         })
