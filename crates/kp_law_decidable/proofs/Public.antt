@@ -8,6 +8,8 @@ pub use Rattle.kp_law_decidable.proofs.Counting.{formulas_ascend as formulas_are
 pub use Rattle.kp_law_decidable.proofs.Modelled.{model_or_none}
 -- ---- Some clash is the first, or no action clashes.
 pub use Rattle.kp_law_decidable.proofs.Clashing.{clash_or_none}
+-- ---- A ground problem has pairs of relevance.
+pub use Rattle.kp_law_decidable.proofs.Relevant.{relevance_decided}
 -- ---- Merges have a table, or are refused.
 pub use Rattle.kp_law_decidable.proofs.Tabling.{tables_decided}
 -- ---- Steps are a plan, or fail first from some model, and somewhere.

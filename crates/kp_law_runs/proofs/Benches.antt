@@ -42,15 +42,16 @@ use Rattle.kp_run_prepare.specs.Prepared.{by_texts, by_trees, early, later}
 use Rattle.kp_run_inputs.specs.SourceTables.{no_table, with_table}
 use Rattle.kp_run_inputs.proofs.Public.{table_of_source_is_for_trees}
 use Rattle.kp_run_solve.specs.Solving.{Finds, spends}
-use Rattle.kp_run_solve.proofs.Public.{ends_are_true, no_plan_is_accepted, steps_named, actions_among_have_names, operator_names_are_steps}
+use Rattle.kp_run_solve.proofs.Public.{ends_are_true, no_plan_is_accepted, steps_named, actions_among_have_names, operator_names_are_steps, both_plans, task_of_trees_fits}
 use Rattle.kp_run_solve.specs.Operators.{acts_among}
 use Rattle.kp_run_bench.specs.Summary.{summary_text}
 use Rattle.kp_run_bench.proofs.Public.{told_actions_are_those_among}
-use Rattle.kp_run_bench.specs.Bench.{texts_of, SumsUp, TellsBench, over, searched as by_search, Benches}
+use Rattle.kp_run_inputs.specs.Tasks.{no_task, with_task}
+use Rattle.kp_run_bench.specs.Bench.{texts_of, SumsUp, TellsBench, Benches}
 use Rattle.kp_run.specs.Outcomes.{IsDue}
 use Rattle.kp_run.specs.Ends.{Ends}
 use Rattle.kp_run.specs.Solved.{Tells, its_ground, its_formula, its_task, IsWrittenPlan}
-use Rattle.kp_run.proofs.Public.{both_plans, due_makes, task_of_trees_fits, prepared_is_proper, no_plan_text_tells_complete, IsNoRefusal, not_refused, due_by}
+use Rattle.kp_run.proofs.Public.{due_makes, prepared_is_proper, no_plan_text_tells_complete, IsNoRefusal, not_refused, due_by}
 use Rattle.kp_run_prepare.proofs.Public.{problem_of_trees}
 use Rattle.kp_law_runs.specs.Follows.{IsAnsweredBy}
 use Rattle.kp_law_runs.specs.Bench.{IsPosedBench, IsSolvedBench, HasNoBenchPlan, IsSpentBench, BenchesAreTrue, BenchesAreAnswered}
@@ -73,12 +74,12 @@ of_texts : (c : Asked) (o : Outcome) → IsNoRefusal o → Benches c o → HasBe
 of_texts c o answers (early (by_texts r why is)) = absurd (not_refused o nothing r is answers)
 of_texts c o answers (early (by_trees d p names r trees why is)) = absurd (not_refused o names r is answers)
 of_texts c o answers (later d p trees ready (no_table names r why is)) = absurd (not_refused o names r is answers)
-of_texts c o answers (later d p trees ready (with_table table has (over r why is))) = absurd (not_refused o nothing r is answers)
-of_texts c o answers (later d p trees ready (with_table table has (by_search found fits finds tells))) = record {
+of_texts c o answers (later d p trees ready (with_table table has (no_task r why is))) = absurd (not_refused o nothing r is answers)
+of_texts c o answers (later d p trees ready (with_table table has (with_task fits s))) = record {
   posed = record { about = record { domain_tree = d; problem_tree = p; table = table }; trees = trees; prepared = ready; has_table = has; fits = fits };
-  found = found;
-  finds = finds;
-  tells = tells;
+  found = s.found;
+  finds = s.finds;
+  tells = s.tells;
 }
 
 has_benched : (words : List (Vec ℕ Global)) (held : Option FileMap) (c : Asked) (o : Outcome) → IsCall verbs.Bench words c → IsDue words held o → IsNoRefusal o → HasBenched c o

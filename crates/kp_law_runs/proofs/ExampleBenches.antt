@@ -56,9 +56,13 @@ use Rattle.kp_run_prepare.specs.Texts.{HaveTrees}
 use Rattle.kp_run_prepare.specs.Prepared.{usual, IsPrepared, later}
 use Rattle.kp_run_inputs.specs.SourceTables.{by_mode, with_table}
 use Rattle.kp_run_solve.specs.Solving.{Finds}
-use Rattle.kp_run_bench.specs.Bench.{Benches, searched as by_search}
+use Rattle.kp_run_inputs.specs.Tasks.{with_task}
+use Rattle.kp_run_bench.specs.Bench.{Benches}
 use Rattle.kp_run.specs.Ends.{Ends, came}
-use Rattle.kp_run.proofs.Public.{file_reads_by_computing, empty_tags_fit, empty_tag_made, example_has_state, due_by}
+use Rattle.kp_run_inputs.proofs.Public.{empty_tags_fit, empty_tag_made}
+use Rattle.kp_run.proofs.Public.{due_by}
+use Rattle.kp_law_runs.proofs.Computed.{reads_file as file_reads_by_computing}
+use Rattle.kp_law_runs.proofs.ExampleOutcomes.{has_state as example_has_state}
 use Rattle.kp_law_runs.specs.Bench.{HasNoBenchPlan}
 use Rattle.kp_law_runs.proofs.Benches.{benches_are_true}
 use Rattle.kp_law_runs.proofs.ExampleCourses.{unreached}
@@ -298,7 +302,7 @@ abbrev no_plan : Outcome
 no_plan = denies (no_plan_text (positive 0 ∷ []))
 
 benches : Benches running no_plan
-benches = later cells_tree two_tree trees prepared (with_table table (by_mode modes.K0 table (empty_tag_made cells_tree two_tree)) (by_search NoPlan (empty_tags_fit cells_tree two_tree prepared.started.small) found_none (positive 0 ∷ [], one_uncovered, refl)))
+benches = later cells_tree two_tree trees prepared (with_table table (by_mode modes.K0 table (empty_tag_made cells_tree two_tree)) (with_task (empty_tags_fit cells_tree two_tree prepared.started.small) (record { found = NoPlan; finds = found_none; tells = (positive 0 ∷ [], one_uncovered, refl) })))
 
 abbrev before : Outside
 before = record { held = Some empty; told = Some []; get_faults = λ q. 0; put_faults = λ q. 0; write_faults = 0 }

@@ -37,9 +37,11 @@ use Rattle.kp_run_prepare.specs.Texts.{HaveTrees}
 use Rattle.kp_run_classical.specs.Classical.{IsClassicalProblem, later, task_of}
 use Rattle.kp_run_solve.specs.Solving.{Finds, solves, spends, TellsClassical}
 use Rattle.kp_run_messages.specs.Searches.{no_plan_line}
+use Rattle.kp_run_classical.proofs.Public.{classical_task_fits}
 use Rattle.kp_run.specs.Classical.{ClassicalTexts}
 use Rattle.kp_run.specs.Ends.{Ends, came}
-use Rattle.kp_run.proofs.Public.{example_holding, got_after_insert, got_beside_insert, classical_task_fits, due_by, held_alone}
+use Rattle.kp_run.proofs.Public.{got_after_insert, got_beside_insert, due_by, held_alone}
+use Rattle.kp_law_runs.proofs.ExampleOutcomes.{holding as example_holding}
 use Rattle.kp_run.specs.Solved.{IsSolvedClassical, HasNoClassicalPlan, IsSpentClassical}
 use Rattle.kp_law_runs.proofs.Classicals.{classical_is_a_plan, no_classical_plan_is_true, classical_spent_is_true}
 use Rattle.kp_law_runs.proofs.ExampleCourses.{leading, reaching, unreached, with_plan, without_plan, spent}

@@ -30,7 +30,8 @@ use Rattle.kp_law_translation.proofs.Public.{formulas_speak_of_ground_atoms}
 use Rattle.kp_run_prepare.specs.Texts.{HaveTrees}
 use Rattle.kp_run_prepare.specs.Prepared.{usual, IsPrepared}
 use Rattle.kp_run_classical.specs.Classical.{classical, IsClassicalProblem}
-use Rattle.kp_run.proofs.Public.{file_reads_by_computing, exchange_reads as domain_reads, from_p_to_q_reads as problem_reads, example_only_p, example_has_state, example_few_primes}
+use Rattle.kp_law_runs.proofs.Computed.{reads_file as file_reads_by_computing}
+use Rattle.kp_law_runs.proofs.ExampleOutcomes.{domain_reads, problem_reads, only_p, has_state as example_has_state, few_primes as example_few_primes}
 
 -- ---- no clash
 
@@ -68,8 +69,8 @@ within l m weight atoms a b c d e f g h = record { counts = record { bindings = 
 pub trees : HaveTrees exchange_text from_p_to_q_text exchange_tree from_p_to_q_tree
 trees = record { domain_reads = domain_reads; problem_reads = problem_reads; no_fault = record { domain = refl; problem = refl } }
 
-only_p_is : is_model (initial_of exchange_tree from_p_to_q_tree) example_only_p ≡ true
-unfolding example_only_p
+only_p_is : is_model (initial_of exchange_tree from_p_to_q_tree) only_p ≡ true
+unfolding only_p
 only_p_is = refl
 
 pub prepared : IsPrepared 20000 exchange_tree from_p_to_q_tree
@@ -77,7 +78,7 @@ prepared = record {
   started = record {
     small = within (numbered_problem exchange_tree from_p_to_q_tree) usual 3 2 (omega arith) (omega arith) (omega arith) (omega arith) refl refl refl refl;
     counted = example_few_primes (initial_of exchange_tree from_p_to_q_tree) (positive 0) refl (omega arith);
-    initial = example_has_state exchange_tree from_p_to_q_tree trees.no_fault example_only_p only_p_is;
+    initial = example_has_state exchange_tree from_p_to_q_tree trees.no_fault only_p only_p_is;
   };
   clash_free = never_clashing exchange_tree from_p_to_q_tree refl;
 }
@@ -100,8 +101,8 @@ to_both_reads = file_reads_by_computing grammar.problem to_both (tokens_of_text 
 pub both_trees : HaveTrees exchange_text to_both exchange_tree to_both_tree
 both_trees = record { domain_reads = domain_reads; problem_reads = to_both_reads; no_fault = record { domain = refl; problem = refl } }
 
-both_start : is_model (initial_of exchange_tree to_both_tree) example_only_p ≡ true
-unfolding example_only_p
+both_start : is_model (initial_of exchange_tree to_both_tree) only_p ≡ true
+unfolding only_p
 both_start = refl
 
 pub both_prepared : IsPrepared 20000 exchange_tree to_both_tree
@@ -109,7 +110,7 @@ both_prepared = record {
   started = record {
     small = within (numbered_problem exchange_tree to_both_tree) usual 3 2 (omega arith) (omega arith) (omega arith) (omega arith) refl refl refl refl;
     counted = example_few_primes (initial_of exchange_tree to_both_tree) (positive 0) refl (omega arith);
-    initial = example_has_state exchange_tree to_both_tree both_trees.no_fault example_only_p both_start;
+    initial = example_has_state exchange_tree to_both_tree both_trees.no_fault only_p both_start;
   };
   clash_free = never_clashing exchange_tree to_both_tree refl;
 }

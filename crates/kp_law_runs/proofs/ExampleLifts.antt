@@ -34,10 +34,14 @@ use Rattle.kp_words.specs.declared.verb.Verb.TheVariants as verbs
 use Rattle.kp_run_prepare.proofs.Public.{problem_of_trees}
 use Rattle.kp_run_prepare.specs.Prepared.{IsStarted, later}
 use Rattle.kp_run_inputs.specs.SourceTables.{by_mode, with_table}
-use Rattle.kp_run.specs.Translate.{translates, done, TranslatesTexts}
+use Rattle.kp_run_inputs.specs.Tasks.{with_task}
+use Rattle.kp_run.specs.Translate.{translates, TranslatesTexts}
 use Rattle.kp_run.specs.Ends.{Ends, came}
 use Rattle.kp_run.specs.Completeness.{RanComplete, one_mode, IsOfTheSame, HoldsPlan}
-use Rattle.kp_run.proofs.Public.{clash_free_with_table, example_two_atoms, empty_tags_fit, complete_is_told, empty_tag_made, nothing_uncovered, example_with_limit, example_limited, example_is_limited, example_holding, example_due_with, example_is_small, example_only_p, example_has_state, example_closed_q, example_unconditional, got_after_insert, got_beside_insert}
+use Rattle.kp_run_inputs.proofs.Public.{empty_tags_fit, empty_tag_made, nothing_uncovered}
+use Rattle.kp_run.proofs.Public.{complete_is_told, got_after_insert, got_beside_insert}
+use Rattle.kp_law_runs.proofs.ClashFree.{clash_free_with_table, two_atoms as example_two_atoms}
+use Rattle.kp_law_runs.proofs.ExampleOutcomes.{with_limit as example_with_limit, limited as example_limited, is_limited as example_is_limited, holding as example_holding, due_with as example_due_with, is_small as example_is_small, only_p, has_state as example_has_state, closed_q as example_closed_q, unconditional as example_unconditional}
 use Rattle.kp_run.specs.Solved.{GoesOn}
 use Rattle.kp_law_runs.specs.Commands.{HasLift}
 use Rattle.kp_law_runs.proofs.ExampleFiles.{trees}
@@ -47,8 +51,8 @@ use Rattle.kp_law_runs.proofs.ExampleFiles.{trees}
 abbrev from_p : Initial
 from_p = initial_of exchange_tree from_p_to_q_tree
 
-only_p_is : is_model from_p example_only_p ≡ true
-unfolding example_only_p
+only_p_is : is_model from_p only_p ≡ true
+unfolding only_p
 only_p_is = refl
 
 -- the one clause is in order, and the only prime implicate
@@ -68,7 +72,7 @@ started : IsStarted 1 exchange_tree from_p_to_q_tree
 started = record {
   small = example_is_small (numbered_problem exchange_tree from_p_to_q_tree) refl refl refl refl;
   counted = one_prime;
-  initial = example_has_state exchange_tree from_p_to_q_tree trees.no_fault example_only_p only_p_is;
+  initial = example_has_state exchange_tree from_p_to_q_tree trees.no_fault only_p only_p_is;
 }
 
 no_clash : IsClashFree (ground_of exchange_tree from_p_to_q_tree) from_p
@@ -82,7 +86,7 @@ outcome = translates example_limited (ground_of exchange_tree from_p_to_q_tree) 
 
 is_done : TranslatesTexts example_limited exchange_text from_p_to_q_text [] outcome
 is_done = later exchange_tree from_p_to_q_tree trees (record { started = started; clash_free = no_clash })
-    (with_table table (by_mode modes.K0 table (empty_tag_made exchange_tree from_p_to_q_tree)) (done [] (empty_tags_fit exchange_tree from_p_to_q_tree started.small) (nothing_uncovered (ground_of exchange_tree from_p_to_q_tree) from_p (example_unconditional from_p_to_q_tree refl) table) refl))
+    (with_table table (by_mode modes.K0 table (empty_tag_made exchange_tree from_p_to_q_tree)) (with_task (empty_tags_fit exchange_tree from_p_to_q_tree started.small) (record { uncovered = []; are = nothing_uncovered (ground_of exchange_tree from_p_to_q_tree) from_p (example_unconditional from_p_to_q_tree refl) table; outcome = refl })))
 
 abbrev before : FileMap
 before = example_holding exchange_text from_p_to_q_text

@@ -63,13 +63,14 @@ use Rattle.kp_run_prepare.specs.Prepared.{usual, later}
 use Rattle.kp_run_inputs.specs.SourceTables.{by_mode, with_table}
 use Rattle.kp_run_inputs.proofs.Public.{table_of_source_is_for_trees}
 use Rattle.kp_run_solve.specs.Solving.{Finds}
-use Rattle.kp_run_solve.proofs.Public.{ends_are_true}
+use Rattle.kp_run_solve.proofs.Public.{ends_are_true, task_of_trees_fits}
 use Rattle.kp_run_bench.specs.Summary.{summary_text}
 use Rattle.kp_run_bench.specs.Working.{IsSafe}
-use Rattle.kp_run_bench.specs.Bench.{Benches, searched as by_search}
+use Rattle.kp_run_inputs.specs.Tasks.{with_task}
+use Rattle.kp_run_bench.specs.Bench.{Benches}
 use Rattle.kp_run_bench.proofs.Public.{succeeding_actions_are_plan}
 use Rattle.kp_run.specs.Ends.{Ends, came}
-use Rattle.kp_run.proofs.Public.{task_of_trees_fits, prepared_is_proper as proper, due_by}
+use Rattle.kp_run.proofs.Public.{prepared_is_proper as proper, due_by}
 use Rattle.kp_run_prepare.proofs.Public.{problem_of_trees}
 use Rattle.kp_law_runs.specs.Bench.{IsSolvedBench}
 use Rattle.kp_law_runs.proofs.Benches.{benches_are_true}
@@ -469,13 +470,17 @@ abbrev summary : Outcome
 summary = prints (summary_text running g table [] 1 2)
 
 benches : Benches running summary
-benches = later cells_tree two_tree trees prepared (with_table table (by_mode modes.Models table is_made) (by_search (Plan (0 ∷ 1 ∷ []) 2) fits found_plan (record {
-  machine = MachineStep.act 0 ∷ MachineStep.merge 0 ∷ [];
-  numbers = refl;
-  works = succeeding_actions_are_plan g i table (0 ∷ 1 ∷ []) safe (ends_are_true task 10000 (Plan (0 ∷ 1 ∷ []) 2) fit found_plan);
-  uncovered = [];
-  are_uncovered = none_left;
-  told = refl;
+benches = later cells_tree two_tree trees prepared (with_table table (by_mode modes.Models table is_made) (with_task fits (record {
+  found = Plan (0 ∷ 1 ∷ []) 2;
+  finds = found_plan;
+  tells = record {
+    machine = MachineStep.act 0 ∷ MachineStep.merge 0 ∷ [];
+    numbers = refl;
+    works = succeeding_actions_are_plan g i table (0 ∷ 1 ∷ []) safe (ends_are_true task 10000 (Plan (0 ∷ 1 ∷ []) 2) fit found_plan);
+    uncovered = [];
+    are_uncovered = none_left;
+    told = refl;
+  };
 })))
 
 abbrev before : Outside

@@ -41,12 +41,15 @@ use Rattle.kp_words.specs.Owned.{bare}
 use Rattle.kp_run_prepare.specs.Texts.{HaveTrees}
 use Rattle.kp_run_prepare.specs.Prepared.{IsPrepared, later}
 use Rattle.kp_run_inputs.specs.SourceTables.{HasTable, by_mode, with_table}
-use Rattle.kp_run_inputs.proofs.Public.{table_of_source_is_for_trees}
-use Rattle.kp_run_solve.specs.Solving.{Finds, solves, spends, AreNamed, TellsSolved, searched}
+use Rattle.kp_run_inputs.proofs.Public.{table_of_source_is_for_trees, empty_tags_fit, empty_tag_made, nothing_uncovered}
+use Rattle.kp_run_inputs.specs.Tasks.{with_task}
+use Rattle.kp_run_solve.specs.Solving.{Finds, solves, spends, AreNamed, TellsSolved}
 use Rattle.kp_run_messages.specs.Searches.{no_plan_text}
+use Rattle.kp_run_solve.proofs.Public.{task_of_trees_fits}
 use Rattle.kp_run.specs.Solve.{SolvesTexts}
 use Rattle.kp_run.specs.Ends.{Ends, came}
-use Rattle.kp_run.proofs.Public.{empty_tags_fit, empty_tag_made, nothing_uncovered, example_holding, example_unconditional, got_after_insert, got_beside_insert, task_of_trees_fits, due_by, held_alone}
+use Rattle.kp_run.proofs.Public.{got_after_insert, got_beside_insert, due_by, held_alone}
+use Rattle.kp_law_runs.proofs.ExampleOutcomes.{holding as example_holding, unconditional as example_unconditional}
 use Rattle.kp_run_prepare.proofs.Public.{problem_of_trees}
 use Rattle.kp_run.specs.Solved.{IsSolved, HasNoPlan, IsSpent}
 use Rattle.kp_law_runs.proofs.Solvings.{solved_is_a_plan, no_plan_is_true, spent_is_true}
@@ -124,7 +127,7 @@ module _ (domain problem : List ℕ) (d : Domain Word) (p : Problem Word) (have 
       task_of_trees_fits d p (empty_tag d p) ready.started.small fits (tables_can_be_written domain problem (problem_of_trees domain problem d p have) (empty_tag d p) (table_of_source_is_for_trees d p (of_mode modes.K0) [] (empty_tag d p) ready.started.small fits has_table))
 
   comes_to : (budget : ℕ) (name : Option (List ℕ)) (found : Found) (o : Outcome) → Finds (task_of (ground_of d p) (empty_tag d p)) budget found → TellsSolved name (ground_of d p) (initial_of d p) (empty_tag d p) found o → SolvesTexts (solving budget name) domain problem [] o
-  comes_to budget name found o finds tells = later d p have ready (with_table (empty_tag d p) has_table (searched found (empty_tags_fit d p ready.started.small) finds tells))
+  comes_to budget name found o finds tells = later d p have ready (with_table (empty_tag d p) has_table (with_task (empty_tags_fit d p ready.started.small) (record { found = found; finds = finds; tells = tells })))
 
 -- ---- from p to q: the plan is told, and the plan of the translation is put under c
 

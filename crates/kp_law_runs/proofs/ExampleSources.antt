@@ -40,13 +40,15 @@ use Rattle.kp_words.proofs.Public.{word_of_bytes, example_two_apart, call_by_wor
 use Rattle.kp_words.specs.Owned.{bare}
 use Rattle.kp_run_prepare.specs.Prepared.{usual, later}
 use Rattle.kp_run_inputs.specs.SourceTables.{by_mode, by_file, with_table}
-use Rattle.kp_run_solve.specs.Solving.{searched}
-use Rattle.kp_run.specs.Translate.{translates, done, TranslatesTexts}
+use Rattle.kp_run_inputs.specs.Tasks.{with_task}
+use Rattle.kp_run.specs.Translate.{translates, TranslatesTexts}
 use Rattle.kp_run.specs.Solve.{SolvesTexts}
 use Rattle.kp_run.specs.Ends.{Ends, came}
 use Rattle.kp_run.specs.Completeness.{PrintsComplete, RanComplete, one_text, IsOfTheSame, HoldsPlan}
 use Rattle.kp_run.specs.Solved.{Tells}
-use Rattle.kp_run.proofs.Public.{empty_tags_fit, table_of_none, empty_tag_made_in_modes, nothing_uncovered, complete_is_told, example_exchange_action, example_holding, example_due_with, example_unconditional, got_after_insert, got_beside_insert, due_by, held_alone}
+use Rattle.kp_run_inputs.proofs.Public.{empty_tags_fit, table_of_none, empty_tag_made_in_modes, nothing_uncovered}
+use Rattle.kp_run.proofs.Public.{complete_is_told, got_after_insert, got_beside_insert, due_by, held_alone}
+use Rattle.kp_law_runs.proofs.ExampleOutcomes.{exchange_action as example_exchange_action, holding as example_holding, due_with as example_due_with, unconditional as example_unconditional}
 use Rattle.kp_law_runs.specs.Solve.{GivenHaveNoPlan}
 use Rattle.kp_law_runs.proofs.SomeModes.{some_modes_tell_complete, no_plan_in_some_modes}
 use Rattle.kp_law_runs.proofs.ExampleFiles.{trees, prepared, to_both, to_both_tree, both_trees, both_prepared}
@@ -116,7 +118,7 @@ abbrev outcome : Outcome
 outcome = translates by_models (ground_of exchange_tree from_p_to_q_tree) table []
 
 comes_by_models : TranslatesTexts by_models exchange_text from_p_to_q_text [] outcome
-comes_by_models = later exchange_tree from_p_to_q_tree trees prepared (with_table table (by_mode modes.Models table made) (done [] (empty_tags_fit exchange_tree from_p_to_q_tree prepared.started.small) (nothing_uncovered (ground_of exchange_tree from_p_to_q_tree) (initial_of exchange_tree from_p_to_q_tree) (example_unconditional from_p_to_q_tree refl) table) refl))
+comes_by_models = later exchange_tree from_p_to_q_tree trees prepared (with_table table (by_mode modes.Models table made) (with_task (empty_tags_fit exchange_tree from_p_to_q_tree prepared.started.small) (record { uncovered = []; are = nothing_uncovered (ground_of exchange_tree from_p_to_q_tree) (initial_of exchange_tree from_p_to_q_tree) (example_unconditional from_p_to_q_tree refl) table; outcome = refl })))
 
 -- the outside before a run on some files, and after it
 abbrev from : FileMap → Outside
@@ -153,7 +155,7 @@ is_solve =
 
 comes_to_none : SolvesTexts solving exchange_text to_both [] no_plan
 comes_to_none = later exchange_tree to_both_tree both_trees both_prepared (with_table (empty_tag exchange_tree to_both_tree) (by_mode modes.Models (empty_tag exchange_tree to_both_tree) made_for_both)
-    (searched NoPlan (empty_tags_fit exchange_tree to_both_tree both_prepared.started.small) found_none ([], nothing_uncovered (ground_of exchange_tree to_both_tree) (initial_of exchange_tree to_both_tree) (example_unconditional to_both_tree refl) (empty_tag exchange_tree to_both_tree), refl)))
+    (with_task (empty_tags_fit exchange_tree to_both_tree both_prepared.started.small) (record { found = NoPlan; finds = found_none; tells = ([], nothing_uncovered (ground_of exchange_tree to_both_tree) (initial_of exchange_tree to_both_tree) (example_unconditional to_both_tree refl) (empty_tag exchange_tree to_both_tree), refl) })))
 
 ends_with_none : Ends solve_in_models (solving_from exchange_text to_both) (solving_to exchange_text to_both no_plan) status.Negative
 ends_with_none =
@@ -189,7 +191,7 @@ accepted : Accepts 2 (initial_of exchange_tree from_p_to_q_tree) [] usual.tags t
 accepted = record { acceptable = record { each = λ m k. absurd k }; within_limit = omega arith; is_table = table_of_none exchange_tree from_p_to_q_tree }
 
 comes_by_merges : TranslatesTexts by_merges exchange_text from_p_to_q_text (merges_file ∷ []) outcome
-comes_by_merges = later exchange_tree from_p_to_q_tree trees prepared (with_table table (by_file (codes "m") merges_file [] table (omega arith) reads_none accepted) (done [] (empty_tags_fit exchange_tree from_p_to_q_tree prepared.started.small) (nothing_uncovered (ground_of exchange_tree from_p_to_q_tree) (initial_of exchange_tree from_p_to_q_tree) (example_unconditional from_p_to_q_tree refl) table) refl))
+comes_by_merges = later exchange_tree from_p_to_q_tree trees prepared (with_table table (by_file (codes "m") merges_file [] table (omega arith) reads_none accepted) (with_task (empty_tags_fit exchange_tree from_p_to_q_tree prepared.started.small) (record { uncovered = []; are = nothing_uncovered (ground_of exchange_tree from_p_to_q_tree) (initial_of exchange_tree from_p_to_q_tree) (example_unconditional from_p_to_q_tree refl) table; outcome = refl })))
 
 abbrev before : FileMap
 before = insert held (codes "m") merges_file

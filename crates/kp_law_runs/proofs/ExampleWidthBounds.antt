@@ -44,7 +44,9 @@ use Rattle.kp_run_prepare.specs.Texts.{HaveTrees}
 use Rattle.kp_run_prepare.specs.Prepared.{usual, IsPrepared, later}
 use Rattle.kp_run.specs.Width.{tells_width, with_report}
 use Rattle.kp_run.specs.Ends.{Ends, came}
-use Rattle.kp_run.proofs.Public.{file_reads_by_computing, example_holding, example_has_state, example_few_primes, got_after_insert, got_beside_insert, prepared_is_proper, due_by, held_alone}
+use Rattle.kp_run.proofs.Public.{got_after_insert, got_beside_insert, prepared_is_proper, due_by, held_alone}
+use Rattle.kp_law_runs.proofs.Computed.{reads_file as file_reads_by_computing}
+use Rattle.kp_law_runs.proofs.ExampleOutcomes.{holding as example_holding, has_state as example_has_state, few_primes as example_few_primes}
 use Rattle.kp_law_runs.specs.Width.{IsWidthTold, IsTooWide}
 use Rattle.kp_law_runs.proofs.Widths.{widths_are_true}
 use Rattle.kp_law_runs.proofs.ExampleFiles.{within, never_clashing, turn, no_atom, chain, chain_tree, chain_reads}

@@ -29,7 +29,7 @@ use Rattle.kp_run_prepare.specs.Prepared.{usual}
 use Rattle.kp_run.specs.Width.{tells_width}
 use Rattle.kp_run.specs.Ends.{Ends}
 use Rattle.kp_run.specs.Solved.{GoesOn}
-use Rattle.kp_run.proofs.Public.{example_holding}
+use Rattle.kp_law_runs.proofs.ExampleOutcomes.{holding as example_holding}
 use Rattle.kp_law_runs.specs.Follows.{EndsWith}
 use Rattle.kp_law_runs.specs.Width.{AreRight, IsWidthTold}
 use Rattle.kp_law_runs.proofs.Widths.{widths_are_answered, widths_are_true}

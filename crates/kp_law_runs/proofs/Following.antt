@@ -17,7 +17,6 @@ use Rattle.kp_words_options.specs.Words.{has_text}
 use Rattle.kp_words.specs.Forms.{form}
 use Rattle.kp_words.specs.Command.{IsCommand, file_under, file_among, if_named, inputs_of, outputs_of}
 use Rattle.kp_run_messages.specs.Refusals.{nothing}
-use Rattle.kp_run.specs.Translate.{done}
 use Rattle.kp_run.specs.Contents.{Contents, IsContent, AreContentsUnder, AreContents}
 use Rattle.kp_run.specs.Outcomes.{IsDue, usage, of_command}
 use Rattle.kp_run.specs.Ends.{Ends, came, read_failed, no_memory}

@@ -1,3 +1,7 @@
+pub mod Computed
+pub mod ClashFree
+pub mod ExampleOutcomes
+pub mod ExampleRefusals
 pub mod OneTranslation
 pub mod OneStrip
 pub mod OnceEach

@@ -22,9 +22,11 @@ use Rattle.kp_base.specs.declared.ground.Initial.{Initial}
 use Rattle.kp_check.specs.declared.answer.Judged.{Judged}
 use Rattle.kp_check.specs.declared.answer.Judged.TheVariants.{Yes, No}
 use Rattle.kp_law_translation.specs.OfTrees.{ground_of, initial_of}
-use Rattle.kp_run.specs.Translate.{TranslatesTexts, translates, done}
+use Rattle.kp_run_inputs.specs.Tasks.{with_task}
+use Rattle.kp_run_solve.proofs.Public.{machine_lines_read}
+use Rattle.kp_run.specs.Translate.{TranslatesTexts, translates}
 use Rattle.kp_run.specs.Strip.{strips}
-use Rattle.kp_run.specs.Lift.{LiftsActions, lifts, fails, with_task}
+use Rattle.kp_run.specs.Lift.{LiftsActions, lifts, fails}
 use Rattle.kp_run.specs.Check.{tells}
 use Rattle.kp_run.specs.Outcomes.{IsDue}
 use Rattle.kp_run.specs.Ends.{Ends}
@@ -49,7 +51,7 @@ use Rattle.kp_run_inputs.specs.SourceTables.{by_mode, with_table}
 use Rattle.kp_run_inputs.specs.Actions.{with_actions}
 use Rattle.kp_run_inputs.proofs.Public.{found_numbers_are_actions, found_actions_are_named, as_many_found_as_steps, table_of_source_is_for_trees}
 use Rattle.kp_run.specs.Completeness.{PrintsComplete}
-use Rattle.kp_run.proofs.Public.{complete_text_leaves_none as none_told, complete_is_told, prepared_is_proper, machine_lines_read, due_by, held_alone, named_merges_held}
+use Rattle.kp_run.proofs.Public.{complete_text_leaves_none as none_told, complete_is_told, prepared_is_proper, due_by, held_alone, named_merges_held}
 use Rattle.kp_run_prepare.proofs.Public.{problem_of_trees}
 use Rattle.kp_run.specs.Solved.{GoesOn}
 use Rattle.kp_law_runs.specs.Commands.{HasTranslation, TranslationsAreAnswered, CompleteIsTrue, MergesAreListed, ClashesAreAnswered, HasVerdict, ChecksAreAnswered, ChecksAreTrue, HasLift, LiftsAreAnswered, LiftsAreTrue, LiftedLinesStrip, StripsAreAnswered}
@@ -69,7 +71,7 @@ merges_due words m c domain problem merges o is first second others comes =
 translation_due : (words : List (Vec ℕ Global)) (m : FileMap) (c : Asked) (d : Domain Word) (p : Problem Word) (table : TagTable) (ls : List Lit) → IsCall verbs.Translate words c → GoesOn m c.domain c.problem c.implicates d p → HasTranslation m (source_of c) d p table ls → IsDue words (Some m) (translates c (ground_of d p) table ls)
 translation_due words m c d p table ls is g h =
     merges_due words m c g.domain g.problem h.merges (translates c (ground_of d p) table ls) is g.domain_held g.problem_held h.held
-    (later d p g.trees g.prepared (with_table table h.has_table (done ls h.fits h.are_uncovered refl)))
+    (later d p g.trees g.prepared (with_table table h.has_table (with_task h.fits (record { uncovered = ls; are = h.are_uncovered; outcome = refl }))))
 
 pub translations_are_answered : TranslationsAreAnswered
 translations_are_answered words old new s ends m c d p table ls held is g h = ends_with words old new s ends m _ held (translation_due words m c d p table ls is g h)

@@ -6,28 +6,21 @@ use Rattle.kp_base.specs.declared.ground.TagTable.{TagTable}
 use Rattle.kp_base.proofs.Cases.{some_alike}
 use Rattle.kp_law_tagged_machine.specs.Lifts.{lift_of}
 use Rattle.kp_law_tagged_machine.proofs.Public.{failing_lists_dont_lift, lists_fail_once, lifted_lists_strip}
-use Rattle.kp_law_ktask.specs.Task.{task_of}
 use Rattle.kp_cover.proofs.Public.{uncovered_once}
 use Rattle.kp_law_decidable.proofs.Public.{verdict_once}
 use Rattle.kp_plans.specs.Printed.{plan_text}
-use Rattle.kp_run_messages.specs.Refusals.{nothing}
 use Rattle.kp_run_outcome.specs.declared.outcome.Outcome.{Outcome}
 use Rattle.kp_words.specs.Asked.{Asked}
-use Rattle.kp_run_prepare.specs.Refusing.{refuses}
-use Rattle.kp_run_prepare.specs.Prepared.{usual}
-use Rattle.kp_run_inputs.proofs.Public.{by_plan_one_outcome}
-use Rattle.kp_ktask.proofs.Public.{task_refused_once, task_refused_or_within}
+use Rattle.kp_run_inputs.specs.Actions.{ComesByPlan}
+use Rattle.kp_run_inputs.proofs.Public.{by_task_one_outcome, by_plan_one_outcome}
 use Rattle.kp_run_messages.specs.Lifting.{unlifted_text}
 use Rattle.kp_run_outcome.specs.Printing.{prints, denies}
-use Rattle.kp_run.specs.Translate.{translates, TranslatesGround, over, done}
-use Rattle.kp_run.specs.Lift.{LiftsActions, lifts, fails, LiftsPlan, no_task, with_task}
+use Rattle.kp_run.specs.Translate.{translates, IsPut, TranslatesGround}
+use Rattle.kp_run.specs.Lift.{LiftsActions, lifts, fails, LiftsPlan}
 use Rattle.kp_run.specs.Check.{tells, TellsJudged, failing_step}
 
 pub table_once : (c : Asked) (g : Ground) (i : Initial) (table : TagTable) (o u : Outcome) → TranslatesGround c g i table o → TranslatesGround c g i table u → o ≡ u
-table_once c g i table o u (over r a ei) (over s b ej) = ei ∙ (ap (refuses nothing) (task_refused_once (task_of g table) usual r s a b) ∙ sym ej)
-table_once c g i table o u (over r a ei) (done ls b are ej) = absurd (task_refused_or_within (task_of g table) usual r a b)
-table_once c g i table o u (done ls a are ei) (over s b ej) = absurd (task_refused_or_within (task_of g table) usual s b a)
-table_once c g i table o u (done ls a are ei) (done ms b also ej) = ei ∙ (ap (translates c g table) (uncovered_once g i table ls ms are also) ∙ sym ej)
+table_once c g i table o u h k = by_task_one_outcome g table (IsPut c g i table) (λ x y a b. a.outcome ∙ (ap (translates c g table) (uncovered_once g i table a.uncovered b.uncovered a.are b.are) ∙ sym b.outcome)) o u h k
 
 -- ---- plans
 
@@ -44,7 +37,4 @@ module _ (g : Ground) (table : TagTable) where
       is ∙ (ap (λ z. denies (unlifted_text g.atoms (failing_step (length ns) z) l)) same.0 ∙ (ap (λ z. denies (unlifted_text g.atoms (failing_step (length ns) j) z)) same.1 ∙ sym e))
 
   pub lifts_once : (plan : List ℕ) (o u : Outcome) → LiftsPlan g plan table o → LiftsPlan g plan table u → o ≡ u
-  lifts_once plan o u (no_task r a e) (no_task s b f) = e ∙ (ap (refuses nothing) (task_refused_once (task_of g table) usual r s a b) ∙ sym f)
-  lifts_once plan o u (no_task r a e) (with_task b h) = absurd (task_refused_or_within (task_of g table) usual r a b)
-  lifts_once plan o u (with_task a h) (no_task s b f) = absurd (task_refused_or_within (task_of g table) usual s b a)
-  lifts_once plan o u (with_task a h) (with_task b k) = by_plan_one_outcome g plan (LiftsActions g table) lift_once o u h k
+  lifts_once plan o u h k = by_task_one_outcome g table (ComesByPlan g plan (LiftsActions g table)) (by_plan_one_outcome g plan (LiftsActions g table) lift_once) o u h k

@@ -4,7 +4,6 @@ use Rattle.std.specs.Option.{option_and_then}
 use Rattle.std.specs.List.{list_all}
 use Rattle.std.proofs.lemmas.Bool.{cases_lt, false≢true}
 use Rattle.kp_base.specs.declared.refused.Part.TheVariants as parts
-use Rattle.kp_base.specs.declared.refused.Refused.{Refused}
 use Rattle.kp_base.specs.declared.refused.Refused.TheVariants as refusals
 use Rattle.kp_base.specs.declared.ground.GroundName.{GroundName}
 use Rattle.kp_base.specs.declared.ground.TagTable.{TagTable}
@@ -17,9 +16,6 @@ use Rattle.kp_names_semantics.specs.Strip.{stripped, strip}
 use Rattle.kp_law_translation.specs.OfTrees.{ground_of, initial_of}
 use Rattle.kp_law_translation.proofs.Public.{formulas_speak_of_ground_atoms, initial_states_are_models, tables_can_be_written, numbers_below_are_actions as there, lifted_steps_have_names}
 use Rattle.kp_law_ktask.specs.Task.{task_of}
-use Rattle.kp_law_ktask.specs.Weight.{weight_of}
-use Rattle.kp_classic.specs.declared.task.Task.{Task}
-use Rattle.kp_ktask.specs.Translated.{FitsLimits, RefusesTask, facts_over, weight_over}
 use Rattle.kp_tags_files.specs.Printed.{merges_of, merges_text}
 use Rattle.kp_law_decidable.specs.Laws.{AreProper}
 use Rattle.kp_law_decidable.proofs.Public.{formulas_are_ascending, coverages_decided, verdicts_decided, widths_decided}
@@ -39,33 +35,22 @@ use Rattle.kp_run_prepare.specs.Texts.{HaveTrees}
 use Rattle.kp_run_prepare.specs.Refusing.{refuses, named_in}
 use Rattle.kp_run_prepare.specs.Prepared.{usual, IsPrepared}
 use Rattle.kp_run_prepare.proofs.Public.{usual_ground_is_of_its_atoms, problem_of_trees}
-use Rattle.kp_run_inputs.proofs.Public.{found_numbers_are_actions, by_table_some_outcome, by_plan_some_outcome, table_of_source_is_for_trees}
+use Rattle.kp_run_inputs.proofs.Public.{found_numbers_are_actions, by_table_some_outcome, by_task_some_outcome, by_plan_some_outcome, table_of_source_is_for_trees}
 use Rattle.kp_law_tagged_machine.proofs.Public.{lists_lift_or_fail, no_clash_under_exclusive_pairs as never_clashes}
 use Rattle.kp_run_messages.specs.Lifting.{unlifted_text}
-use Rattle.kp_run_solve.specs.Solving.{SolvesGround, over as too_large}
-use Rattle.kp_run.specs.Translate.{translates, TranslatesGround, over, done, TranslatesTrees}
+use Rattle.kp_run_solve.specs.Solving.{Searches, TellsSolved, SolvesGround}
+use Rattle.kp_run_solve.proofs.Public.{task_of_trees_fits}
+use Rattle.kp_run.specs.Translate.{translates, IsPut, TranslatesGround, TranslatesTrees}
 use Rattle.kp_run.specs.Solve.{SolvesTrees}
 use Rattle.kp_run.specs.Strip.{StripsText, too_long, no_plan, no_strip, strips}
-use Rattle.kp_run.specs.Lift.{LiftsActions, lifts, fails, LiftsPlan, no_task, with_task, LiftsTrees}
+use Rattle.kp_run.specs.Lift.{LiftsActions, lifts, fails, LiftsPlan, LiftsTrees}
 use Rattle.kp_run.specs.Check.{tells, TellsJudged, ChecksTrees, failing_step}
 use Rattle.kp_run.specs.Width.{tells_width, no_report, with_report, WidthTrees}
 use Rattle.kp_run.specs.Merges.{MergesGround, MergesTrees}
 use Rattle.kp_run_inputs.specs.SourceTables.{HasTable}
-use Rattle.kp_run_bench.specs.Bench.{BenchesGround, over as too_large_to_bench, BenchesTrees}
+use Rattle.kp_run_inputs.specs.Actions.{ComesByPlan}
+use Rattle.kp_run_bench.specs.Bench.{TellsBench, BenchesGround, BenchesTrees}
 use Rattle.kp_law_runs.proofs.SomeSearch.{some_search, some_bench}
-use Rattle.kp_run.proofs.Public.{task_of_trees_fits}
-
--- ---- tables and their tasks
-
--- a task within the limits, or a refusal
-pub fits_or_refused : (t : Task) → FitsLimits t usual ⊎ ((r : Refused) × RefusesTask t usual r)
-fits_or_refused t = elim (cases_lt 262144 (length t.facts)) [
-  | inl more ↦ inr (refusals.FactsOver, facts_over more)
-  | inr few ↦ elim (cases_lt 16000000 (weight_of t)) [
-    | inl heavy ↦ inr (refusals.WeightOver, weight_over few heavy)
-    | inr light ↦ inl (record { facts = few; weight = light })
-  ]
-]
 
 -- as many of merges as the command names, by its source
 by_source : (c : Asked) (merges : List (List ℕ)) → length merges ≡ length (if_named c.merges) → length merges ≡ length (if_named (file_of (source_of c)))
@@ -81,12 +66,9 @@ module _ (limit : ℕ) (d : Domain Word) (p : Problem Word) (x y : List ℕ) (tr
   -- ---- a translation
 
   pub of_table : (c : Asked) (table : TagTable) → (o : Outcome) × TranslatesGround c (ground_of d p) (initial_of d p) table o
-  of_table c table = elim (fits_or_refused (task_of (ground_of d p) table)) [
-    | inr r ↦ (refuses nothing r.0, over r.0 r.1 refl)
-    | inl fits ↦
-        let ls = coverages_decided (ground_of d p) (initial_of d p) table proper in
-        (translates c (ground_of d p) table ls.0, done ls.0 fits ls.1 refl)
-  ]
+  of_table c table = by_task_some_outcome (ground_of d p) table (IsPut c (ground_of d p) (initial_of d p) table) (λ fits.
+      let ls = coverages_decided (ground_of d p) (initial_of d p) table proper in
+      (translates c (ground_of d p) table ls.0, record { uncovered = ls.0; are = ls.1; outcome = refl }))
 
   pub of_translate : (c : Asked) (merges : List (List ℕ)) → length merges ≡ length (if_named c.merges) → (o : Outcome) × TranslatesTrees c merges d p o
   of_translate c merges many = by_table_some_outcome (ground_of d p) (initial_of d p) (source_of c) merges (TranslatesGround c (ground_of d p) (initial_of d p)) proper (by_source c merges many) (λ t has. of_table c t)
@@ -112,12 +94,8 @@ module _ (limit : ℕ) (d : Domain Word) (p : Problem Word) (x y : List ℕ) (tr
   ]
 
   pub of_plan_lifted : (plan : List ℕ) (table : TagTable) → (o : Outcome) × LiftsPlan (ground_of d p) plan table o
-  of_plan_lifted plan table = elim (fits_or_refused (task_of (ground_of d p) table)) [
-    | inr r ↦ (refuses nothing r.0, no_task r.0 r.1 refl)
-    | inl fits ↦
-        let o = by_plan_some_outcome (ground_of d p) plan (LiftsActions (ground_of d p) table) (λ ss ns has. of_actions table ns (found_numbers_are_actions (ground_of d p) ss ns has.known)) in
-        (o.0, with_task fits o.1)
-  ]
+  of_plan_lifted plan table = by_task_some_outcome (ground_of d p) table (ComesByPlan (ground_of d p) plan (LiftsActions (ground_of d p) table)) (λ fits.
+      by_plan_some_outcome (ground_of d p) plan (LiftsActions (ground_of d p) table) (λ ss ns has. of_actions table ns (found_numbers_are_actions (ground_of d p) ss ns has.known)))
 
   pub of_lift : (c : Asked) (merges : List (List ℕ)) (plan : List ℕ) → length merges ≡ length (if_named c.merges) → (o : Outcome) × LiftsTrees c merges plan d p o
   of_lift c merges plan many = by_table_some_outcome (ground_of d p) (initial_of d p) (source_of c) merges (LiftsPlan (ground_of d p) plan) proper (by_source c merges many) (λ t has. of_plan_lifted plan t)
@@ -125,12 +103,9 @@ module _ (limit : ℕ) (d : Domain Word) (p : Problem Word) (x y : List ℕ) (tr
   -- ---- a search
 
   pub of_search : (c : Asked) (merges : List (List ℕ)) (table : TagTable) → HasTable (ground_of d p) (initial_of d p) (source_of c) merges table → (o : Outcome) × SolvesGround c.classical c.budget (ground_of d p) (initial_of d p) table o
-  of_search c merges table has = elim (fits_or_refused (task_of (ground_of d p) table)) [
-    | inr r ↦ (refuses nothing r.0, too_large r.0 r.1 refl)
-    | inl fits ↦
-        let for = table_of_source_is_for_trees d p (source_of c) merges table ready.started.small fits has in
-        some_search c.classical c.budget (ground_of d p) (initial_of d p) table proper fits (task_of_trees_fits d p table ready.started.small fits (tables_can_be_written x y (problem_of_trees x y d p trees) table for))
-  ]
+  of_search c merges table has = by_task_some_outcome (ground_of d p) table (Searches (task_of (ground_of d p) table) c.budget (TellsSolved c.classical (ground_of d p) (initial_of d p) table)) (λ fits.
+      let for = table_of_source_is_for_trees d p (source_of c) merges table ready.started.small fits has in
+      some_search c.classical c.budget (ground_of d p) (initial_of d p) table proper (task_of_trees_fits d p table ready.started.small fits (tables_can_be_written x y (problem_of_trees x y d p trees) table for)))
 
   pub of_solve : (c : Asked) (merges : List (List ℕ)) → length merges ≡ length (if_named c.merges) → (o : Outcome) × SolvesTrees c merges d p o
   of_solve c merges many = by_table_some_outcome (ground_of d p) (initial_of d p) (source_of c) merges (SolvesGround c.classical c.budget (ground_of d p) (initial_of d p)) proper (by_source c merges many) (λ t has. of_search c merges t has)
@@ -146,13 +121,10 @@ module _ (limit : ℕ) (d : Domain Word) (p : Problem Word) (x y : List ℕ) (tr
   -- ---- a run on a generated problem
 
   pub of_bench_table : (c : Asked) (table : TagTable) → HasTable (ground_of d p) (initial_of d p) (of_mode c.mode) [] table → (o : Outcome) × BenchesGround c (ground_of d p) (initial_of d p) table o
-  of_bench_table c table has = elim (fits_or_refused (task_of (ground_of d p) table)) [
-    | inr r ↦ (refuses nothing r.0, too_large_to_bench r.0 r.1 refl)
-    | inl fits ↦
-        let for = table_of_source_is_for_trees d p (of_mode c.mode) [] table ready.started.small fits has in
-        let writable = tables_can_be_written x y (problem_of_trees x y d p trees) table for in
-        some_bench c (ground_of d p) (initial_of d p) table proper fits (task_of_trees_fits d p table ready.started.small fits writable) (record { writable = writable; right = for.right; valid = for.valid; never_clashes = never_clashes (ground_of d p) (initial_of d p) ready.clash_free })
-  ]
+  of_bench_table c table has = by_task_some_outcome (ground_of d p) table (Searches (task_of (ground_of d p) table) c.budget (TellsBench c (ground_of d p) (initial_of d p) table)) (λ fits.
+      let for = table_of_source_is_for_trees d p (of_mode c.mode) [] table ready.started.small fits has in
+      let writable = tables_can_be_written x y (problem_of_trees x y d p trees) table for in
+      some_bench c (ground_of d p) (initial_of d p) table proper (task_of_trees_fits d p table ready.started.small fits writable) (record { writable = writable; right = for.right; valid = for.valid; never_clashes = never_clashes (ground_of d p) (initial_of d p) ready.clash_free }))
 
   pub of_bench : (c : Asked) → (o : Outcome) × BenchesTrees c d p o
   of_bench c = by_table_some_outcome (ground_of d p) (initial_of d p) (of_mode c.mode) [] (BenchesGround c (ground_of d p) (initial_of d p)) proper refl (λ t has. of_bench_table c t has)

@@ -16,7 +16,8 @@ use Rattle.kp_words.specs.declared.verb.Verb.TheVariants as verbs
 use Rattle.kp_run_prepare.specs.Prepared.{by_texts, by_trees, early, later}
 use Rattle.kp_run_inputs.specs.SourceTables.{HasTable, no_table, with_table}
 use Rattle.kp_run_inputs.proofs.Public.{some_tables_are_complete}
-use Rattle.kp_run.specs.Translate.{TranslatesGround, over, done, TranslatesTexts}
+use Rattle.kp_run_inputs.specs.Tasks.{no_task, with_task}
+use Rattle.kp_run.specs.Translate.{TranslatesGround, TranslatesTexts}
 use Rattle.kp_run.specs.Completeness.{PrintsComplete}
 use Rattle.kp_run.specs.Solved.{its_ground, its_formula}
 use Rattle.kp_run.proofs.Public.{due_makes, IsNoRefusal, not_refused, prepared_is_proper, solve_is_true}
@@ -29,11 +30,11 @@ use Rattle.kp_law_runs.proofs.OfCommands.{complete_text}
 
 module _ (c : Asked) (mode : Mode) (source : (source_of c) ≡ of_mode mode) (each : CoversEach mode) (o : Outcome) (answers : IsNoRefusal o) where
   ground_told : (d : Domain Word) (p : Problem Word) (merges : List (List ℕ)) (table : TagTable) → AreProper (ground_of d p) (initial_of d p) → HasTable (ground_of d p) (initial_of d p) (source_of c) merges table → TranslatesGround c (ground_of d p) (initial_of d p) table o → PrintsComplete o.text
-  ground_told d p merges table proper has (over r why is) = absurd (not_refused o nothing r is answers)
-  ground_told d p merges table proper has (done ls fits are is) =
+  ground_told d p merges table proper has (no_task r why is) = absurd (not_refused o nothing r is answers)
+  ground_told d p merges table proper has (with_task fits put) =
       let own_table = subst (λ s. HasTable (ground_of d p) (initial_of d p) s merges table) source has in
       let whole = some_tables_are_complete (ground_of d p) (initial_of d p) mode merges table each proper.own_atoms own_table in
-      subst (λ (z : Outcome). PrintsComplete z.text) (sym is) ((complete_text (ground_of d p) (initial_of d p) table ls proper are).1 whole)
+      subst (λ (z : Outcome). PrintsComplete z.text) (sym put.outcome) ((complete_text (ground_of d p) (initial_of d p) table put.uncovered proper put.are).1 whole)
 
   texts_told : (domain problem : List ℕ) (merges : List (List ℕ)) → TranslatesTexts c domain problem merges o → PrintsComplete o.text
   texts_told domain problem merges (early (by_texts r why is)) = absurd (not_refused o nothing r is answers)

@@ -17,7 +17,6 @@ use Rattle.kp_law_decidable.proofs.Public.{coverages_decided, model_or_none, siz
 use Rattle.kp_search.specs.declared.found.Found.{Found}
 use Rattle.kp_search.specs.declared.found.Found.TheVariants.{Plan, NoPlan, Spent}
 use Rattle.kp_law_ktask.specs.Task.{task_of}
-use Rattle.kp_ktask.specs.Translated.{FitsLimits}
 use Rattle.kp_law_translation.specs.OfTrees.{ground_of, initial_of}
 use Rattle.kp_law_translation.proofs.Public.{initial_states_are_models, formulas_speak_of_ground_atoms}
 use Rattle.kp_run_messages.specs.Refusals.{nothing}
@@ -25,49 +24,47 @@ use Rattle.kp_run_messages.specs.Searches.{no_plan_line, no_plan_text}
 use Rattle.kp_run_outcome.specs.declared.outcome.Outcome.{Outcome}
 use Rattle.kp_run_outcome.specs.Printing.{prints, denies}
 use Rattle.kp_run_prepare.specs.Refusing.{refuses}
-use Rattle.kp_run_prepare.specs.Prepared.{usual}
 use Rattle.kp_run_classical.specs.Classical.{classical, IsCertain, IsSmall, IsClassicalProblem, RefusesClassical, not_classical, too_large, no_initial_state, by_texts, by_trees, ComesClassical, early, later, task_of as classical_task}
-use Rattle.kp_run_classical.proofs.Public.{classical_successes_have_names as actions_named}
-use Rattle.kp_run_solve.specs.Solving.{Finds, solves, spends, SolvesGround, searched, SolvesClassical}
+use Rattle.kp_run_classical.proofs.Public.{classical_successes_have_names as actions_named, classical_task_fits}
+use Rattle.kp_run_solve.specs.Solving.{Finds, Searches, solves, spends, TellsSolved, SolvesClassical}
 use Rattle.kp_search.proofs.Public.{has_some_end_by_added}
 use Rattle.kp_run_solve.proofs.Public.{ends_are_true, operators_have_names}
 use Rattle.kp_run_solve.specs.Operators.{acts_among}
 use Rattle.kp_words.specs.Asked.{Asked}
 use Rattle.kp_run_bench.specs.Summary.{summary_text}
-use Rattle.kp_run_bench.specs.Bench.{BenchesGround, searched as by_bench}
+use Rattle.kp_run_bench.specs.Bench.{TellsBench}
 use Rattle.kp_run_bench.specs.Working.{IsSafe}
 use Rattle.kp_run_bench.proofs.Public.{succeeding_actions_are_plan, plan_is_told}
-use Rattle.kp_run.proofs.Public.{classical_task_fits}
 use Rattle.kp_law_runs.proofs.SomeStart.{texts_decided}
 
 -- ---- a ground problem with a table
 
 -- the search of a task that fits comes to something that is told
-pub some_search : (name : Option (List ℕ)) (budget : ℕ) (g : Ground) (i : Initial) (table : TagTable) → AreProper g i → FitsLimits (task_of g table) usual → IsFit (task_of g table) → (o : Outcome) × SolvesGround name budget g i table o
-some_search name budget g i table proper fits fit = let end = has_some_end_by_added (task_of g table) budget fit in by end.0 end.1
+pub some_search : (name : Option (List ℕ)) (budget : ℕ) (g : Ground) (i : Initial) (table : TagTable) → AreProper g i → IsFit (task_of g table) → (o : Outcome) × Searches (task_of g table) budget (TellsSolved name g i table) o
+some_search name budget g i table proper fit = let end = has_some_end_by_added (task_of g table) budget fit in by end.0 end.1
   where
-    by : (found : Found) → Finds (task_of g table) budget found → (o : Outcome) × SolvesGround name budget g i table o
+    by : (found : Found) → Finds (task_of g table) budget found → (o : Outcome) × Searches (task_of g table) budget (TellsSolved name g i table) o
     by (Plan ops n) finds =
         let names = operators_have_names g table ops (ends_are_true (task_of g table) budget (Plan ops n) fit finds).0 in
-        (solves name names.0 names.1, searched (Plan ops n) fits finds (names.0, names.1, names.2, refl))
-    by NoPlan finds = let ls = coverages_decided g i table proper in (denies (no_plan_text ls.0), searched NoPlan fits finds (ls.0, ls.1, refl))
-    by (Spent n) finds = (spends n, searched (Spent n) fits finds refl)
+        (solves name names.0 names.1, record { found = Plan ops n; finds = finds; tells = (names.0, names.1, names.2, refl) })
+    by NoPlan finds = let ls = coverages_decided g i table proper in (denies (no_plan_text ls.0), record { found = NoPlan; finds = finds; tells = (ls.0, ls.1, refl) })
+    by (Spent n) finds = (spends n, record { found = Spent n; finds = finds; tells = refl })
 
 -- ---- a run on a generated problem
 
 -- so does that of a task that is safe
-pub some_bench : (c : Asked) (g : Ground) (i : Initial) (table : TagTable) → AreProper g i → FitsLimits (task_of g table) usual → IsFit (task_of g table) → IsSafe g i table → (o : Outcome) × BenchesGround c g i table o
-some_bench c g i table proper fits fit safe = let end = has_some_end_by_added (task_of g table) c.budget fit in by end.0 end.1
+pub some_bench : (c : Asked) (g : Ground) (i : Initial) (table : TagTable) → AreProper g i → IsFit (task_of g table) → IsSafe g i table → (o : Outcome) × Searches (task_of g table) c.budget (TellsBench c g i table) o
+some_bench c g i table proper fit safe = let end = has_some_end_by_added (task_of g table) c.budget fit in by end.0 end.1
   where
-    by : (found : Found) → Finds (task_of g table) c.budget found → (o : Outcome) × BenchesGround c g i table o
+    by : (found : Found) → Finds (task_of g table) c.budget found → (o : Outcome) × Searches (task_of g table) c.budget (TellsBench c g i table) o
     by (Plan ops n) finds =
         let ls = coverages_decided g i table proper in
         let actions = acts_among (length g.actions) ops in
         let works = succeeding_actions_are_plan g i table ops safe (ends_are_true (task_of g table) c.budget (Plan ops n) fit finds) in
         let o = prints (summary_text c g table ls.0 (length actions) n) in
-        (o, by_bench (Plan ops n) fits finds (plan_is_told c g i table ops actions n (Ok o) refl works (ls.0, ls.1, refl)))
-    by NoPlan finds = let ls = coverages_decided g i table proper in (denies (no_plan_text ls.0), by_bench NoPlan fits finds (ls.0, ls.1, refl))
-    by (Spent n) finds = (spends n, by_bench (Spent n) fits finds refl)
+        (o, record { found = Plan ops n; finds = finds; tells = plan_is_told c g i table ops actions n (Ok o) refl works (ls.0, ls.1, refl) })
+    by NoPlan finds = let ls = coverages_decided g i table proper in (denies (no_plan_text ls.0), record { found = NoPlan; finds = finds; tells = (ls.0, ls.1, refl) })
+    by (Spent n) finds = (spends n, record { found = Spent n; finds = finds; tells = refl })
 
 -- ---- two classical trees
 

@@ -23,17 +23,18 @@ use Rattle.kp_check.specs.declared.answer.Judged.{Judged}
 use Rattle.kp_check.specs.declared.answer.Judged.TheVariants.{Yes, No}
 use Rattle.kp_run_inputs.specs.SourceTables.{ComesByTable, no_table, with_table}
 use Rattle.kp_run_inputs.specs.Actions.{ComesByPlan, no_actions, with_actions}
-use Rattle.kp_run.specs.Translate.{translates, TranslatesGround, over, done}
+use Rattle.kp_run_inputs.specs.Tasks.{no_task, with_task}
+use Rattle.kp_run.specs.Translate.{translates, TranslatesGround}
 use Rattle.kp_run.specs.Strip.{StripsText, too_long, no_plan, no_strip, strips}
-use Rattle.kp_run.specs.Lift.{LiftsActions, lifts, fails, LiftsPlan, no_task, with_task}
+use Rattle.kp_run.specs.Lift.{LiftsActions, lifts, fails, LiftsPlan}
 use Rattle.kp_run.specs.Check.{tells}
 use Rattle.kp_run.specs.Width.{tells_width, WidthGround, no_report, with_report}
 use Rattle.kp_names_semantics.specs.Steps.{Step}
 use Rattle.kp_search.specs.declared.found.Found.{Found}
 use Rattle.kp_search.specs.declared.found.Found.TheVariants.{Plan, NoPlan, Spent}
 use Rattle.kp_run_classical.specs.Classical.{ComesClassical, by_texts as no_texts, by_trees as no_trees, early as at_once, later as goes_on}
-use Rattle.kp_run_solve.specs.Solving.{solves, TellsSolved, SolvesGround, over as too_large, searched as by_search, TellsClassical}
-use Rattle.kp_run_bench.specs.Bench.{TellsBench, BenchesGround, over as too_large_to_bench, searched as by_bench}
+use Rattle.kp_run_solve.specs.Solving.{solves, TellsSolved, SolvesGround, TellsClassical}
+use Rattle.kp_run_bench.specs.Bench.{TellsBench, BenchesGround}
 use Rattle.kp_base.specs.declared.lit.Lit.{Lit}
 use Rattle.kp_words.specs.declared.verb.Verb.TheVariants as verbs
 
@@ -72,8 +73,8 @@ comes_of e limit x y P o under (early (by_trees d p names r h a is)) = refusal_u
 comes_of e limit x y P o under (later d p h w goes) = under d p goes
 
 pub ground_under : (c : Asked) (g : Ground) (i : Initial) (table : TagTable) (o : Outcome) → TranslatesGround c g i table o → PutsUnder (outputs_by verbs.Translate c) o
-ground_under c g i table o (over r t e) = refusal_under (outputs_by verbs.Translate c) o nothing r e
-ground_under c g i table o (done ls f are e) = translation_under c g table ls o e
+ground_under c g i table o (no_task r t e) = refusal_under (outputs_by verbs.Translate c) o nothing r e
+ground_under c g i table o (with_task fits put) = translation_under c g table put.uncovered o put.outcome
 
 pub table_under : (e : List (List ℕ)) (g : Ground) (i : Initial) (source : Source) (merges : List (List ℕ)) (P : TagTable → Outcome → Type 0) (o : Outcome) → ((table : TagTable) → P table o → PutsUnder e o) → ComesByTable g i source merges P o → PutsUnder e o
 table_under e g i source merges P o under (no_table names r a is) = refusal_under e o names r is
@@ -131,8 +132,8 @@ told_under c g i table o NoPlan t = under_none (outputs_by verbs.Solve c) o (ap 
 told_under c g i table o (Spent n) t = under_none (outputs_by verbs.Solve c) o (ap (λ (z : Outcome). z.puts) t) (λ d. absurd (let f = sym (ap (λ (z : Outcome). z.status) t) ∙ d in cc))
 
 pub solved_under : (c : Asked) (g : Ground) (i : Initial) (table : TagTable) (o : Outcome) → SolvesGround c.classical c.budget g i table o → PutsUnder (outputs_by verbs.Solve c) o
-solved_under c g i table o (too_large r a e) = refusal_under (outputs_by verbs.Solve c) o nothing r e
-solved_under c g i table o (by_search found a finds t) = told_under c g i table o found t
+solved_under c g i table o (no_task r a e) = refusal_under (outputs_by verbs.Solve c) o nothing r e
+solved_under c g i table o (with_task fits s) = told_under c g i table o s.found s.tells
 
 pub classical_under : (c : Asked) (g : Ground) (o : Outcome) (found : Found) → TellsClassical g found o → PutsUnder (outputs_by verbs.Classical c) o
 classical_under c g o (Plan ops n) t = under_none (outputs_by verbs.Classical c) o (ap (λ (z : Outcome). z.puts) t.2) (λ d. refl)
@@ -158,5 +159,5 @@ summary_under c g i table o NoPlan t = under_none (outputs_by verbs.Bench c) o (
 summary_under c g i table o (Spent n) t = under_none (outputs_by verbs.Bench c) o (ap (λ (z : Outcome). z.puts) t) (λ d. refl)
 
 pub bench_under : (c : Asked) (g : Ground) (i : Initial) (table : TagTable) (o : Outcome) → BenchesGround c g i table o → PutsUnder (outputs_by verbs.Bench c) o
-bench_under c g i table o (too_large_to_bench r a e) = refusal_under (outputs_by verbs.Bench c) o nothing r e
-bench_under c g i table o (by_bench found a finds t) = summary_under c g i table o found t
+bench_under c g i table o (no_task r a e) = refusal_under (outputs_by verbs.Bench c) o nothing r e
+bench_under c g i table o (with_task fits s) = summary_under c g i table o s.found s.tells

@@ -17,11 +17,12 @@ use Rattle.kp_words.specs.Asked.{Source, of_mode, Asked, source_of}
 use Rattle.kp_run_prepare.specs.Prepared.{by_texts, by_trees, Comes, early, later}
 use Rattle.kp_run_inputs.specs.SourceTables.{ComesByTable, no_table, with_table}
 use Rattle.kp_run_inputs.specs.Actions.{ComesByPlan, no_actions, with_actions}
-use Rattle.kp_run.specs.Translate.{TranslatesGround, over, done, TranslatesTrees}
+use Rattle.kp_run_inputs.specs.Tasks.{no_task, with_task}
+use Rattle.kp_run.specs.Translate.{TranslatesGround, TranslatesTrees}
 use Rattle.kp_run.specs.Solve.{SolvesTrees}
 use Rattle.kp_run.specs.Classical.{ClassicalTrees}
 use Rattle.kp_run.specs.Strip.{StripsText, too_long, no_plan, no_strip, strips}
-use Rattle.kp_run.specs.Lift.{LiftsActions, lifts, fails, LiftsPlan, no_task, with_task, LiftsTrees}
+use Rattle.kp_run.specs.Lift.{LiftsActions, lifts, fails, LiftsPlan, LiftsTrees}
 use Rattle.kp_run.specs.Check.{tells, ChecksTrees}
 use Rattle.kp_run.specs.Width.{tells_width, WidthGround, no_report, with_report, WidthTrees}
 use Rattle.kp_run.specs.Merges.{MergesTrees}
@@ -31,8 +32,8 @@ use Rattle.kp_width.specs.declared.report.WidthReport.TheVariants.{Within, Over}
 use Rattle.kp_search.specs.declared.found.Found.{Found}
 use Rattle.kp_search.specs.declared.found.Found.TheVariants.{Plan, NoPlan, Spent}
 use Rattle.kp_run_classical.specs.Classical.{ComesClassical, by_texts as no_texts, by_trees as no_trees, early as at_once, later as goes_on}
-use Rattle.kp_run_solve.specs.Solving.{TellsSolved, SolvesGround, over as too_large, searched as by_search, TellsClassical}
-use Rattle.kp_run_bench.specs.Bench.{texts_of, TellsBench, BenchesGround, over as too_heavy, searched as by_found, BenchesTrees, Benches}
+use Rattle.kp_run_solve.specs.Solving.{TellsSolved, SolvesGround, TellsClassical}
+use Rattle.kp_run_bench.specs.Bench.{texts_of, TellsBench, BenchesGround, BenchesTrees, Benches}
 use Rattle.kp_run.specs.Laws.{OutcomesAreAnswers}
 
 -- an outcome that is known
@@ -53,8 +54,8 @@ plan_answer g text P o answers (no_actions named r a e) = known o _ e tt
 plan_answer g text P o answers (with_actions ss ns has h) = answers ns h
 
 ground_answer : (c : Asked) (g : Ground) (i : Initial) (table : TagTable) (o : Outcome) → TranslatesGround c g i table o → IsAnswer o.status
-ground_answer c g i table o (over r a e) = known o _ e tt
-ground_answer c g i table o (done ls a are e) = known o _ e tt
+ground_answer c g i table o (no_task r a e) = known o _ e tt
+ground_answer c g i table o (with_task fits put) = known o _ put.outcome tt
 
 judged_answer : (g : Ground) (ns : List ℕ) (o : Outcome) (v : Judged) → o ≡ tells g (length ns) v → IsAnswer o.status
 judged_answer g ns o Yes e = known o _ e tt
@@ -80,8 +81,8 @@ told_answer name g i table o NoPlan t = known o _ t.2 tt
 told_answer name g i table o (Spent n) t = known o _ t tt
 
 solved_answer : (name : Option (List ℕ)) (budget : ℕ) (g : Ground) (i : Initial) (table : TagTable) (o : Outcome) → SolvesGround name budget g i table o → IsAnswer o.status
-solved_answer name budget g i table o (too_large r a e) = known o _ e tt
-solved_answer name budget g i table o (by_search found a finds t) = told_answer name g i table o found t
+solved_answer name budget g i table o (no_task r a e) = known o _ e tt
+solved_answer name budget g i table o (with_task fits s) = told_answer name g i table o s.found s.tells
 
 classical_answer : (g : Ground) (o : Outcome) (found : Found) → TellsClassical g found o → IsAnswer o.status
 classical_answer g o (Plan ops n) t = known o _ t.2 tt
@@ -107,8 +108,8 @@ summary_answer c g i table o NoPlan t = told_answer None g i table o NoPlan t
 summary_answer c g i table o (Spent n) t = told_answer None g i table o (Spent n) t
 
 benched_answer : (c : Asked) (g : Ground) (i : Initial) (table : TagTable) (o : Outcome) → BenchesGround c g i table o → IsAnswer o.status
-benched_answer c g i table o (too_heavy r a e) = known o _ e tt
-benched_answer c g i table o (by_found found a finds t) = summary_answer c g i table o found t
+benched_answer c g i table o (no_task r a e) = known o _ e tt
+benched_answer c g i table o (with_task fits s) = summary_answer c g i table o s.found s.tells
 
 bench_answer : (c : Asked) (o : Outcome) → Benches c o → IsAnswer o.status
 bench_answer c o a = comes_answer usual_limit (texts_of c).domain (texts_of c).problem (BenchesTrees c) o (λ d p. table_answer (ground_of d p) (initial_of d p) (of_mode c.mode) [] _ o (λ table. benched_answer c (ground_of d p) (initial_of d p) table o)) a

@@ -44,7 +44,9 @@ use Rattle.kp_run_inputs.specs.SourceTables.{HasTable, by_mode, by_file, no_tabl
 use Rattle.kp_run_inputs.specs.Actions.{HasActions, no_actions, with_actions}
 use Rattle.kp_run_inputs.proofs.Public.{sources_have_one_table, plans_have_one_list, named_is_found_at}
 use Rattle.kp_ktask.proofs.Public.{task_refused_or_within}
-use Rattle.kp_run.specs.Lift.{LiftsActions, lifts, fails, LiftsPlan, no_task, with_task, LiftsTrees, LiftsTexts}
+use Rattle.kp_run_inputs.specs.Tasks.{no_task, with_task}
+use Rattle.kp_run_solve.proofs.Public.{machine_lines_read as steps_read}
+use Rattle.kp_run.specs.Lift.{LiftsActions, lifts, fails, LiftsPlan, LiftsTrees, LiftsTexts}
 use Rattle.kp_run.specs.Outcomes.{IsDue}
 use Rattle.kp_run.specs.Ends.{Ends, came, read_failed, no_memory}
 use Rattle.kp_run.specs.Completeness as complete
@@ -52,7 +54,6 @@ use Rattle.kp_run.specs.Completeness.{PrintsComplete, RanComplete, AreSameSource
 use Rattle.kp_run.proofs.CompleteText.{none_uncovered}
 use Rattle.kp_run.proofs.Reading.{content_held, merges_held}
 use Rattle.kp_run.proofs.Comes.{due_makes}
-use Rattle.kp_run.proofs.PlanLines.{steps_read}
 use Rattle.kp_run.proofs.Soundness.{IsDone, AreBoth, both_held, all_done, is_table, first_put, second_put}
 
 -- ---- the translation

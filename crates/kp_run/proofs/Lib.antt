@@ -1,9 +1,6 @@
 pub mod Public
-pub mod Computed
-pub mod EmptyTags
 pub mod Strips
 pub mod Answered
-pub mod Counted
 pub mod Translations
 pub mod Checks
 pub mod Widths
@@ -14,13 +11,7 @@ pub mod Soundness
 pub mod CompleteText
 pub mod Completeness
 pub mod Ending
-pub mod ClashFree
-pub mod ExampleOutcomes
-pub mod ExampleRefusals
 pub mod Searches
 pub mod Whole
-pub mod Fitting
-pub mod PlanLines
-pub mod BothPlans
 pub mod Solved
 pub mod SolvedClassical

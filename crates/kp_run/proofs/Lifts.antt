@@ -6,54 +6,33 @@ use Rattle.std.proofs.lemmas.Option.{slice_get_within}
 use Rattle.kp_base.specs.declared.lit.Lit.{Lit}
 use Rattle.kp_base.specs.declared.memory.Memory.{Memory}
 use Rattle.kp_base.specs.declared.ground.Ground.{Ground}
-use Rattle.kp_base.specs.declared.ground.Initial.{Initial}
 use Rattle.kp_base.specs.declared.ground.TagTable.{TagTable}
-use Rattle.kp_base.specs.declared.refused.Refused.{Refused}
-use Rattle.kp_base.specs.Implicates.{IsOfItsAtoms}
 use Rattle.kp_base.proofs.Lists.{all_from}
 use Rattle.kp_base.proofs.Lits.{has-member}
 use Rattle.kp_law_ktask.specs.Task.{task_of}
-use Rattle.kp_ktask.specs.Translated.{FitsLimits, RefusesTask}
-use Rattle.kp_run_messages.specs.Refusals.{nothing}
 use Rattle.kp_run_outcome.specs.declared.outcome.Outcome.{Outcome}
-use Rattle.kp_words.specs.Asked.{Source}
-use Rattle.kp_run_prepare.specs.Refusing.{refuses}
-use Rattle.kp_run_prepare.specs.Prepared.{usual}
-use Rattle.kp_run_inputs.specs.Actions.{ComesByPlan}
-use Rattle.kp_run_inputs.specs.SourceTables.{HasTable}
-use Rattle.kp_run_inputs.proofs.Public.{tables_are_right, table_targets_are_of_atoms, target_is_of_atoms}
+use Rattle.kp_run_inputs.specs.declared.tabled.Tabled.{Tabled}
+use Rattle.kp_run_inputs.specs.Tabled.{ground_in}
 use Rattle.kp_lift.specs.declared.lifting.Lifting.TheVariants as Lifting
 use Rattle.kp_law_ktask.specs.Accepted.{operator_step}
 use Rattle.kp_lift.specs.Lifting.{IsTableOn, AnswersLifting}
 use Rattle.kp_lift.proofs.Public.{lifted_operators_are_steps}
 use Rattle.kp_run_messages.specs.Lifting.{unlifted_text}
 use Rattle.kp_run_outcome.specs.Printing.{denies}
-use Rattle.kp_run.specs.Lift.{LiftsActions, lifts, fails, LiftsPlan, no_task, with_task}
+use Rattle.kp_run.specs.Lift.{LiftsActions, lifts, fails}
 use Rattle.kp_run.specs.Check.{failing_step}
 use Rattle.kp_run.specs.CommandParts.{PrintsOperators}
 
 -- ---- with a table
 
--- a task is refused
-pub task_refused : (g : Ground) (plan : List ℕ) (table : TagTable) (x : Refused) (r : Result Outcome Memory) → RefusesTask (task_of g table) usual x → IfOk r (λ o. o ≡ refuses nothing x) → IfOk r (LiftsPlan g plan table)
-task_refused g plan table x (Ok o) too is = no_task x too is
-task_refused g plan table x (Err m) too is = tt
-
--- it is within the limits
-pub task_fits : (g : Ground) (plan : List ℕ) (table : TagTable) (r : Result Outcome Memory) → FitsLimits (task_of g table) usual → IfOk r (ComesByPlan g plan (LiftsActions g table)) → IfOk r (LiftsPlan g plan table)
-task_fits g plan table (Ok o) fits h = with_task fits h
-task_fits g plan table (Err m) fits h = tt
-
--- the table of a source is on the atoms of the ground problem
-pub table_on : (g : Ground) (i : Initial) (source : Source) (merges : List (List ℕ)) (table : TagTable) → IsOfItsAtoms g → HasTable g i source merges table → IsTableOn g table
-table_on g i source merges table own has =
-    let right = (tables_are_right g i source merges table own has).0 in
-    record {
-      some_tag = slice_get_within table.tags 0 right.first.0 right.first.1;
-      closures = λ row there. all_from (λ l. nat_lt l.atom.0 (length g.atoms)) row.closure (λ l in-closure. lt-ltb l.atom.0 (length g.atoms) ((right.closures row there).of_atoms l (has-member row.closure l in-closure)));
-      targets = target_is_of_atoms g.atoms table.merges (table_targets_are_of_atoms g i source merges table own has);
-      tags = right.tags;
-    }
+-- a table that is right is on the atoms of the ground problem
+pub table_on : (t : Tabled) → IsTableOn (ground_in t) t.table
+table_on t = record {
+  some_tag = slice_get_within t.table.tags 0 t.right.first.0 t.right.first.1;
+  closures = λ row there. all_from (λ l. nat_lt l.atom.0 (length (ground_in t).atoms)) row.closure (λ l in-closure. lt-ltb l.atom.0 (length (ground_in t).atoms) ((t.right.closures row there).of_atoms l (has-member row.closure l in-closure)));
+  targets = t.targets;
+  tags = t.right.tags;
+}
 
 -- ---- actions
 

@@ -44,8 +44,9 @@ use Rattle.kp_run_prepare.specs.Texts.{HaveTrees}
 use Rattle.kp_run_prepare.specs.Prepared.{IsPrepared, by_texts, by_trees, early, later}
 use Rattle.kp_run_inputs.specs.SourceTables.{HasTable, no_table, with_table}
 use Rattle.kp_run_inputs.proofs.Public.{table_of_source_is_for_trees}
-use Rattle.kp_run_solve.specs.Solving.{Finds, solves, spends, TellsSolved, SolvesGround, over, searched}
-use Rattle.kp_run_solve.proofs.Public.{ends_are_true, no_plan_is_accepted}
+use Rattle.kp_run_inputs.specs.Tasks.{no_task, with_task}
+use Rattle.kp_run_solve.specs.Solving.{Finds, solves, spends, TellsSolved, SolvesGround}
+use Rattle.kp_run_solve.proofs.Public.{ends_are_true, no_plan_is_accepted, both_plans, task_of_trees_fits as task_fits, action_lines_read as actions_read, machine_lines_read as steps_read}
 use Rattle.kp_run.specs.Solve.{SolvesTexts}
 use Rattle.kp_run.specs.Outcomes.{IsDue}
 use Rattle.kp_run.specs.Completeness.{PrintsComplete}
@@ -54,11 +55,8 @@ use Rattle.kp_run_prepare.proofs.Public.{problem_of_trees, usual_ground_is_of_it
 use Rattle.kp_names_semantics.specs.Faults.{HasNoFault}
 use Rattle.kp_names_semantics.specs.Numbering.{numbered_problem}
 use Rattle.kp_run.specs.Solved.{GoesOn, IsPosed, its_ground, its_formula, its_task, IsWrittenPlan, with_named, IsSolved, HasNoPlan, IsSpent, SolveIsTrue}
-use Rattle.kp_run.proofs.BothPlans.{both_plans}
 use Rattle.kp_run.proofs.Reading.{content_held, merges_held}
 use Rattle.kp_run.proofs.Comes.{due_makes}
-use Rattle.kp_run.proofs.Fitting.{task_fits}
-use Rattle.kp_run.proofs.PlanLines.{actions_read, steps_read}
 use Rattle.kp_run.proofs.Whole.{IsCarriedOut, did, IsNoRefusal, not_refused}
 
 -- ---- the problem
@@ -94,16 +92,16 @@ record HasSearched (m : FileMap) (c : Asked) (o : Outcome) : Type 0 where
 module _ (m : FileMap) (c : Asked) (domain problem : List ℕ) (merges : List (List ℕ)) (domain_held : get m c.domain ≡ Some domain) (problem_held : get m c.problem ≡ Some problem)
     (held : AreHeld (Some m) (if_named (file_of (source_of c))) merges) (o : Outcome) (answers : IsNoRefusal o) where
   of_ground : (d : Domain Word) (p : Problem Word) (table : TagTable) → HaveTrees domain problem d p → IsPrepared c.implicates d p → HasTable (ground_of d p) (initial_of d p) (source_of c) merges table → SolvesGround c.classical c.budget (ground_of d p) (initial_of d p) table o → HasSearched m c o
-  of_ground d p table trees ready has (over r why is) = absurd (not_refused o nothing r is answers)
-  of_ground d p table trees ready has (searched found fits finds tells) = record {
+  of_ground d p table trees ready has (no_task r why is) = absurd (not_refused o nothing r is answers)
+  of_ground d p table trees ready has (with_task fits s) = record {
     posed = record {
       about = record { domain_tree = d; problem_tree = p; table = table };
       given = record { domain = domain; problem = problem; domain_held = domain_held; problem_held = problem_held; trees = trees; prepared = ready };
       has_task = record { merges = merges; held = held; has_table = has; fits = fits };
     };
-    found = found;
-    finds = finds;
-    tells = tells;
+    found = s.found;
+    finds = s.finds;
+    tells = s.tells;
   }
 
   of_texts : SolvesTexts c domain problem merges o → HasSearched m c o

@@ -21,11 +21,11 @@ use Rattle.kp_words.specs.Asked.{Asked}
 use Rattle.kp_words.specs.declared.verb.Verb.TheVariants as verbs
 use Rattle.kp_words.specs.Command.{IsCall}
 use Rattle.kp_run_classical.specs.Classical.{by_texts, by_trees, early, later, task_of}
-use Rattle.kp_run_classical.proofs.Public.{classical_successes_are_plans, classical_plans_are_successes}
+use Rattle.kp_run_classical.proofs.Public.{classical_successes_are_plans, classical_plans_are_successes, classical_task_fits as classical_fit}
 use Rattle.kp_run_messages.specs.Refusals.{nothing}
 use Rattle.kp_run_messages.specs.Searches.{no_plan_line}
 use Rattle.kp_run_solve.specs.Solving.{Finds, solves, spends, TellsClassical}
-use Rattle.kp_run_solve.proofs.Public.{ends_are_true}
+use Rattle.kp_run_solve.proofs.Public.{ends_are_true, action_lines_read as actions_read}
 use Rattle.kp_run.specs.Classical.{ClassicalTexts}
 use Rattle.kp_run.specs.Outcomes.{IsDue}
 use Rattle.kp_run.specs.Ends.{Ends}
@@ -33,8 +33,6 @@ use Rattle.kp_run_prepare.proofs.Public.{problem_of_trees}
 use Rattle.kp_run.specs.Solved.{IsHeldClassical, IsPosedClassical, IsSolvedClassical, HasNoClassicalPlan, IsSpentClassical, ClassicalIsTrue}
 use Rattle.kp_run.proofs.Reading.{content_held}
 use Rattle.kp_run.proofs.Comes.{due_makes}
-use Rattle.kp_run.proofs.Fitting.{classical_fit}
-use Rattle.kp_run.proofs.PlanLines.{actions_read}
 use Rattle.kp_run.proofs.Whole.{IsCarriedOut, did, IsNoRefusal, not_refused}
 
 -- ---- what such a run came to

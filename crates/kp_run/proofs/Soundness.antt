@@ -39,7 +39,8 @@ use Rattle.kp_words.specs.Command.{IsCall, file_of, if_named}
 use Rattle.kp_words.proofs.Public.{translate_outputs_differ}
 use Rattle.kp_run_inputs.specs.SourceTables.{HasTable, no_table, with_table}
 use Rattle.kp_run_inputs.proofs.Public.{table_of_source_is_for_trees}
-use Rattle.kp_run.specs.Translate.{translates, TranslatesGround, over as when_over, done as when_done, TranslatesTrees, TranslatesTexts}
+use Rattle.kp_run_inputs.specs.Tasks.{no_task, with_task}
+use Rattle.kp_run.specs.Translate.{translates, TranslatesGround, TranslatesTrees, TranslatesTexts}
 use Rattle.kp_run.specs.Outcomes.{IsDue}
 use Rattle.kp_run.specs.Ends.{Ends, came, read_failed, no_memory}
 use Rattle.kp_run.specs.Soundness.{IsSound}
@@ -81,8 +82,8 @@ refusal_not_done : (o : Outcome) (n : Nameable) (r : Refused) → o ≡ refuses 
 refusal_not_done o n r is e = absurd (let f : status.Refused r ≡ status.Done = sym (ap (λ (z : Outcome). z.status) is) ∙ e in cc)
 
 ground_done : (c : Asked) (g : Ground) (i : Initial) (table : TagTable) (o : Outcome) → TranslatesGround c g i table o → o.status ≡ status.Done → IsGroundDone c g i table o
-ground_done c g i table o (when_over r t is) e = absurd (refusal_not_done o nothing r is e)
-ground_done c g i table o (when_done ls f are is) e = record { uncovered = ls; fits = f; are_uncovered = are; outcome = is }
+ground_done c g i table o (no_task r t is) e = absurd (refusal_not_done o nothing r is e)
+ground_done c g i table o (with_task f put) e = record { uncovered = put.uncovered; fits = f; are_uncovered = put.are; outcome = put.outcome }
 
 -- what two trees are translated to, if that is Done
 record IsTranslated (c : Asked) (merges : List (List ℕ)) (d : Domain Word) (p : Problem Word) (o : Outcome) : Type 0 where

@@ -1,11 +1,6 @@
--- What a ground problem is translated to with a table, what is printed of operators, and what was read of the files of a command. This file serves the crate's own functions and proofs alone.
+-- What is printed of operators, and what was read of the files of a command. This file serves the crate's own functions and proofs alone.
 use Rattle.std.specs.Prelude.{◌≡◌, ◌∷◌, [], ℕ, List, Option, Some, None, map, filter_map, codes, bytes_eq, if◌then◌else◌}
-use Rattle.kp_base.specs.declared.ground.Ground.{Ground}
 use Rattle.kp_base.specs.declared.ground.GroundName.{GroundName}
-use Rattle.kp_base.specs.declared.ground.Initial.{Initial}
-use Rattle.kp_base.specs.declared.ground.TagTable.{TagTable}
-use Rattle.kp_base.specs.declared.lit.Lit.{Lit}
-use Rattle.kp_base.specs.Covering.{AreUncovered}
 use Rattle.kp_classic.specs.declared.task.Task.{Task}
 use Rattle.kp_law_ktask.specs.Accepted.{operator_step}
 use Rattle.kp_plans.specs.Printed.{plan_text}
@@ -19,13 +14,6 @@ use Rattle.kp_base.specs.Files.{most_bytes}
 use Rattle.kp_run_outcome.specs.Ends.{AreHeld}
 use Rattle.kp_run.specs.declared.inputs.Inputs.{Inputs}
 use Rattle.kp_run.specs.Contents.{Contents, IsContent}
-use Rattle.kp_run.specs.Translate.{translates}
-
--- both files are put, and it is told which targets aren't covered
-pub record IsPut (c : Asked) (g : Ground) (i : Initial) (table : TagTable) (o : Outcome) : Type 0 where
-  pub uncovered : List Lit
-  pub are : AreUncovered g i table uncovered
-  pub outcome : o ≡ translates c g table uncovered
 
 -- the names of these operators of a task are printed
 pub record PrintsOperators (task : Task) (ops : List ℕ) (o : Outcome) : Type 0 where

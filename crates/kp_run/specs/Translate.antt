@@ -4,22 +4,18 @@ use Rattle.kp_base.specs.declared.ground.Ground.{Ground}
 use Rattle.kp_base.specs.declared.ground.Initial.{Initial}
 use Rattle.kp_base.specs.declared.ground.TagTable.{TagTable}
 use Rattle.kp_base.specs.declared.lit.Lit.{Lit}
-use Rattle.kp_base.specs.declared.refused.Refused.{Refused}
 use Rattle.kp_base.specs.Covering.{AreUncovered}
 use Rattle.kp_tree_grammar.specs.declared.tree.Word.{Word}
 use Rattle.kp_tree_grammar.specs.Trees as trees
-use Rattle.kp_law_ktask.specs.Task.{task_of}
-use Rattle.kp_ktask.specs.Translated.{FitsLimits, RefusesTask}
 use Rattle.kp_ktask_texts.specs.Translations.{translation_with}
 use Rattle.kp_law_translation.specs.OfTrees.{ground_of, initial_of}
-use Rattle.kp_run_messages.specs.Refusals.{nothing}
 use Rattle.kp_run_messages.specs.Coverage.{coverage_text}
 use Rattle.kp_run_outcome.specs.declared.outcome.Outcome.{Outcome}
 use Rattle.kp_run_outcome.specs.declared.status.Status.TheVariants as status
 use Rattle.kp_words.specs.Asked.{source_of, Asked}
-use Rattle.kp_run_prepare.specs.Refusing.{refuses}
-use Rattle.kp_run_prepare.specs.Prepared.{usual, Comes}
+use Rattle.kp_run_prepare.specs.Prepared.{Comes}
 use Rattle.kp_run_inputs.specs.SourceTables.{ComesByTable}
+use Rattle.kp_run_inputs.specs.Tasks.{ComesByTask}
 
 -- the two files of a ground problem with a table are put under the output names; the counts are printed, and whether the table is complete, with the targets that it doesn't cover
 abbrev pub translates : Asked → Ground → TagTable → List Lit → Outcome
@@ -29,10 +25,15 @@ translates c g table uncovered = record {
   text = (translation_with g table).counts ++ coverage_text g.atoms uncovered;
 }
 
+-- which targets aren't covered is told, and both files are put
+pub record IsPut (c : Asked) (g : Ground) (i : Initial) (table : TagTable) (o : Outcome) : Type 0 where
+  pub uncovered : List Lit
+  pub are : AreUncovered g i table uncovered
+  pub outcome : o ≡ translates c g table uncovered
+
 -- a ground problem and its initial formula are translated with a table of tags and merges to this: the refusal of their task, or its two files and which targets aren't covered
-pub data TranslatesGround (c : Asked) (g : Ground) (i : Initial) (table : TagTable) (o : Outcome) : Type 0 where
-  over : (r : Refused) → RefusesTask (task_of g table) usual r → o ≡ refuses nothing r → TranslatesGround c g i table o
-  done : (uncovered : List Lit) → FitsLimits (task_of g table) usual → AreUncovered g i table uncovered → o ≡ translates c g table uncovered → TranslatesGround c g i table o
+abbrev pub TranslatesGround : Asked → Ground → Initial → TagTable → Outcome → Type 0
+TranslatesGround c g i table o = ComesByTask g table (IsPut c g i table) o
 
 -- two trees are translated to this, with the table of the command's source; `merges` has the text of its file of merges, if it names one
 abbrev pub TranslatesTrees : Asked → List (List ℕ) → trees.Domain Word → trees.Problem Word → Outcome → Type 0

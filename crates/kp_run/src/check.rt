@@ -5,7 +5,6 @@ ghost use Rattle.kp_base.specs.Entailed.{HaveSameModels};
 ghost use Rattle.kp_base.specs.Files.{most_bytes};
 ghost use Rattle.kp_outside.specs.Outside.{IsFront, IsWithin};
 ghost use Rattle.kp_primes.specs.Held.{formula};
-ghost use Rattle.kp_run_prepare.specs.Prepared.{IsUsable};
 ghost use Rattle.kp_run_inputs.specs.Actions.{ComesByPlan};
 ghost use Rattle.kp_run_messages.specs.Counterexamples.{counterexample_text};
 ghost use Rattle.kp_run_outcome.specs.Printing.{prints, denies};
@@ -63,7 +62,6 @@ fn tell(alloc: Global, ground: &Ground, steps: usize, judged: Judged) -> Result<
 
 // Whether actions by number work, which is told.
 fn judge(alloc: Global, prepared: &Prepared, numbers: &Row<u32>) -> Result<Outcome, Memory>
-    requires usable { IsUsable prepared.now }
     requires inside { list_all (λ m. nat_lt m (length prepared.now.ground.actions)) numbers.now ≡ true }
     requires few { length numbers.now < 2147483648 }
     ensures { IfOk result (TellsJudged prepared.now.ground (formula prepared.now.primes) numbers.now) }
@@ -74,11 +72,10 @@ fn judge(alloc: Global, prepared: &Prepared, numbers: &Row<u32>) -> Result<Outco
 
 // Whether the actions of a plan file work, of which at most 16,777,216 bytes were read; or a refusal.
 fn check_plan(alloc: Global, prepared: &Prepared, plan: Got) -> Result<Outcome, Memory>
-    requires within { IsWithin most_bytes plan }
-    requires usable { IsUsable prepared.now }
+    requires { IsWithin most_bytes plan }
     ensures { (text : List ℕ) (i : Formula) → IsFront (Some text) most_bytes plan → HaveSameModels (formula prepared.now.primes) i → IfOk result (ComesByPlan prepared.now.ground text (TellsJudged prepared.now.ground i)) }
 {
-    match actions_of(alloc, &prepared.ground, plan) {
+    match actions_of(alloc, prepared, plan) {
         Ok(numbers) => judge(alloc, prepared, &numbers),
         Err(early) => settle(early),
     }

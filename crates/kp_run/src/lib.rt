@@ -17,4 +17,4 @@ mod width;
 
 pub use entry::run;
 pub use kp_run_outcome::Status;
-pub use law::{empty_tags_fit, outcomes_are_answers};
+pub use law::outcomes_are_answers;

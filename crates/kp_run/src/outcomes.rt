@@ -1,4 +1,5 @@
 ghost use Rattle.std.specs.Prelude.{◌≡◌, ◌∷◌, [], IfOk, OnOk, ◌++◌};
+ghost use Rattle.kp_base.specs.declared.ground.TagTable.{TagTable as Table};
 ghost use Rattle.kp_run_messages.specs.Coverage.{coverage_text};
 ghost use Rattle.kp_ktask_texts.specs.Translations.{translation_with};
 ghost use Rattle.kp_run.specs.Translate.{translates};
@@ -6,7 +7,7 @@ ghost use Rattle.kp_run.specs.Check.{failing_step};
 ghost use Rattle.kp_run.specs.Outcomes.{shows_usage};
 ghost use Rattle.kp_run_outcome.specs.Printing.{prints};
 
-use kp_base::{Ground, Lit, Memory, Row, TagTable, Text};
+use kp_base::{Ground, Lit, Memory, Row, Text};
 use kp_ktask_texts::Translation;
 use kp_run_messages::put_coverage;
 use kp_run_outcome::{FilePut, Outcome, Status};
@@ -88,14 +89,11 @@ pub fn translates(
     alloc: Global,
     command: &Asked<'_>,
     ground: &Ground,
-    table: &TagTable,
     translation: Translation,
     uncovered: &[Lit],
 ) -> Result<Outcome, Memory>
-    requires { translation ≡ translation_with ground.now table.now }
-    ensures { IfOk result (λ o. o ≡ translates command.now ground.now table.now uncovered.now) }
+    ensures { (table : Table) → translation ≡ translation_with ground.now table → IfOk result (λ o. o ≡ translates command.now ground.now table uncovered.now) }
 {
-    let _ = table;
     let puts = put_both(alloc, command, translation.domain, translation.problem)?;
     let text = with_coverage(ground, translation.counts, uncovered)?;
     Ok(Outcome {

@@ -3,15 +3,13 @@ ghost use Rattle.kp_base.specs.declared.ground.Initial.{Initial as Formula};
 ghost use Rattle.kp_base.specs.Entailed.{HaveSameModels};
 ghost use Rattle.kp_outside.specs.Outside.{IsFront, IsWithin};
 ghost use Rattle.kp_primes.specs.Held.{formula};
-ghost use Rattle.kp_run_prepare.specs.Prepared.{IsUsable};
 ghost use Rattle.kp_run.specs.Width.{tells_width, WidthGround, WidthTexts};
 ghost use Rattle.kp_base.specs.Files.{most_bytes};
 
 use crate::outcomes::print_text;
 use kp_base::{Ground, Limits, Memory, Row};
 use kp_outside::Got;
-use kp_relevance::Relevance;
-use kp_run_inputs::settle;
+use kp_run_inputs::{Related, settle};
 use kp_run_messages::{over, width_report};
 use kp_run_outcome::{Outcome, Status};
 use kp_run_prepare::{Prepared, ended_in, prepare};
@@ -42,16 +40,16 @@ fn tell_width(
 }
 
 // How wide a ground problem without a clash is.
-fn measure(alloc: Global, prepared: &Prepared, bound: u32) -> Result<Outcome, Memory>
-    requires { IsUsable prepared.now }
-    ensures { (i : Formula) → HaveSameModels (formula prepared.now.primes) i → IfOk result (WidthGround bound prepared.now.ground i) }
+fn measure(alloc: Global, prepared: Prepared, bound: u32) -> Result<Outcome, Memory>
+    ensures { (i : Formula) → HaveSameModels (formula prepared.primes) i → IfOk result (WidthGround bound prepared.ground i) }
 {
-    let relevance = Relevance::of(alloc, &prepared.ground)?;
+    let related = Related::of(alloc, prepared)?;
+    let prepared = &related.prepared;
     match width(
         alloc,
         &prepared.ground,
         &prepared.primes,
-        &relevance,
+        &related.relevance,
         bound,
         &Limits::usual(),
     ) {
@@ -72,7 +70,7 @@ pub fn width_on(
     ensures { (x y : List ℕ) → IsFront (Some x) most_bytes domain → IsFront (Some y) most_bytes problem → IfOk result (WidthTexts asked.now x y) }
 {
     match prepare(alloc, asked.implicates, domain, problem) {
-        Ok(prepared) => measure(alloc, &prepared, asked.bound),
+        Ok(prepared) => measure(alloc, prepared, asked.bound),
         Err(early) => settle(early),
     }
 }

@@ -1,5 +1,5 @@
 -- A run comes to one outcome.
-use Rattle.std.proofs.Common.{◌≡◌, ◌+◌, ℕ, true, List, [], ◌∷◌, Option, Some, None, map, length, nat_lt, slice_get, refl, sym, ap, ◌∙◌, subst, arith}
+use Rattle.std.proofs.Common.{◌≡◌, ◌+◌, ℕ, true, List, [], ◌∷◌, Option, Some, None, map, length, nat_lt, slice_get, refl, sym, ap, ◌∙◌, arith}
 use Rattle.std.specs.List.{list_all}
 use Rattle.std.proofs.lemmas.Bool.{and_parts, and_from, lt-ltb, le-ltb, false≢true}
 use Rattle.std.proofs.lemmas.Option.{slice_get_within}
@@ -17,25 +17,23 @@ use Rattle.kp_names_semantics.specs.Faults.{HasNoFault}
 use Rattle.kp_cover.proofs.Public.{uncovered_once}
 use Rattle.kp_search.specs.declared.found.Found.{Found}
 use Rattle.kp_search.specs.declared.found.Found.TheVariants.{Plan, NoPlan, Spent}
-use Rattle.kp_search.proofs.Public.{has_one_end_by_added}
 use Rattle.kp_law_ktask.specs.Task.{task_of}
 use Rattle.kp_law_ktask.specs.Accepted.{op_number}
 use Rattle.kp_law_translation.specs.OfTrees.{ground_of, initial_of}
 use Rattle.kp_law_translation.proofs.Public.{initial_states_are_models}
-use Rattle.kp_run_messages.specs.Refusals.{nothing}
 use Rattle.kp_run_messages.specs.Searches.{no_plan_text}
 use Rattle.kp_run_outcome.specs.declared.outcome.Outcome.{Outcome}
 use Rattle.kp_words.specs.Asked.{of_mode, Asked}
 use Rattle.kp_words.specs.Options.{usual_limit}
-use Rattle.kp_run_prepare.specs.Refusing.{refuses}
-use Rattle.kp_run_prepare.specs.Prepared.{usual, IsPrepared, Comes, early, later}
+use Rattle.kp_run_prepare.specs.Prepared.{IsPrepared, Comes, early, later}
 use Rattle.kp_run_prepare.proofs.Public.{comes_to_one_outcome}
-use Rattle.kp_run_inputs.proofs.Public.{by_table_one_outcome}
-use Rattle.kp_ktask.proofs.Public.{task_refused_once, task_refused_or_within}
+use Rattle.kp_run_inputs.proofs.Public.{by_table_one_outcome, by_task_one_outcome}
+use Rattle.kp_run_solve.specs.Solving.{Searches}
+use Rattle.kp_run_solve.proofs.Public.{searches_have_one_outcome}
 use Rattle.kp_run_solve.specs.Operators.{acts_among}
 use Rattle.kp_run_outcome.specs.Printing.{prints, denies}
 use Rattle.kp_run_bench.specs.Summary.{summary_text}
-use Rattle.kp_run_bench.specs.Bench.{texts_of, SumsUp, TellsBench, BenchesGround, over, searched, BenchesTrees}
+use Rattle.kp_run_bench.specs.Bench.{texts_of, SumsUp, TellsBench, BenchesGround, BenchesTrees}
 use Rattle.kp_run_bench.specs.Laws.{BenchesHaveOneOutcome}
 
 -- ---- the actions of a plan
@@ -77,11 +75,8 @@ told_once c g i table some NoPlan o u a b = a.2 ∙ (ap (λ ls. denies (no_plan_
 told_once c g i table some (Spent n) o u a b = a ∙ sym b
 
 ground_once : (c : Asked) (g : Ground) (i : Initial) → HasModel i → (table : TagTable) (o u : Outcome) → BenchesGround c g i table o → BenchesGround c g i table u → o ≡ u
-ground_once c g i some table o u (over r a e) (over s b f) = e ∙ (ap (refuses nothing) (task_refused_once (task_of g table) usual r s a b) ∙ sym f)
-ground_once c g i some table o u (over r a e) (searched found b finds tells) = absurd (task_refused_or_within (task_of g table) usual r a b)
-ground_once c g i some table o u (searched found a finds tells) (over s b f) = absurd (task_refused_or_within (task_of g table) usual s b a)
-ground_once c g i some table o u (searched x a finds tells) (searched y b finds' tells') =
-    told_once c g i table some y o u (subst (λ z. TellsBench c g i table z o) (has_one_end_by_added (task_of g table) c.budget x y finds finds') tells) tells'
+ground_once c g i some table o u a b =
+    by_task_one_outcome g table (Searches (task_of g table) c.budget (TellsBench c g i table)) (searches_have_one_outcome (task_of g table) c.budget (TellsBench c g i table) (told_once c g i table some)) o u a b
 
 -- two trees in which no name is at fault
 abbrev Fine : Asked → Domain Word → Problem Word → Outcome → Type 0

@@ -1,7 +1,6 @@
 -- What is told of what is found, from what the code makes.
 use Rattle.std.proofs.Common.{◌≡◌, ℕ, List, map, length, Result, Ok, Err, IfOk, sym, ap, ◌∙◌, subst}
 use Rattle.kp_base.specs.declared.memory.Memory.{Memory}
-use Rattle.kp_base.specs.declared.refused.Refused.{Refused}
 use Rattle.kp_base.specs.declared.ground.Ground.{Ground}
 use Rattle.kp_base.specs.declared.ground.Initial.{Initial}
 use Rattle.kp_base.specs.declared.ground.TagTable.{TagTable}
@@ -9,38 +8,13 @@ use Rattle.kp_base.specs.declared.lit.Lit.{Lit}
 use Rattle.kp_base.specs.Covering.{AreUncovered}
 use Rattle.kp_base.specs.Machine.{stripped}
 use Rattle.kp_base.specs.Steps.{IsGroundPlan}
-use Rattle.kp_classic.specs.declared.task.Task.{Task}
-use Rattle.kp_search.specs.declared.found.Found.{Found}
-use Rattle.kp_law_ktask.specs.Task.{task_of}
-use Rattle.kp_ktask.specs.Translated.{FitsLimits, RefusesTask}
-use Rattle.kp_run_messages.specs.Refusals.{nothing}
 use Rattle.kp_run_outcome.specs.declared.outcome.Outcome.{Outcome}
 use Rattle.kp_run_outcome.specs.Printing.{prints}
 use Rattle.kp_words.specs.Asked.{Asked}
-use Rattle.kp_run_prepare.specs.Refusing.{refuses}
-use Rattle.kp_run_prepare.specs.Prepared.{usual}
 use Rattle.kp_run_solve.specs.Operators.{step_of, acts_among}
-use Rattle.kp_run_solve.specs.Solving.{Finds}
 use Rattle.kp_run_solve.proofs.Public.{actions_among_steps, operator_numbers_back}
 use Rattle.kp_run_bench.specs.Summary.{summary_text}
-use Rattle.kp_run_bench.specs.Bench.{SumsUp, TellsBench, BenchesGround, over, searched}
-
--- a task is refused
-pub task_refused : (c : Asked) (g : Ground) (i : Initial) (table : TagTable) (x : Refused) (r : Result Outcome Memory) → RefusesTask (task_of g table) usual x → IfOk r (λ o. o ≡ refuses nothing x) → IfOk r (BenchesGround c g i table)
-task_refused c g i table x (Ok o) too is = over x too is
-task_refused c g i table x (Err m) too is = tt
-
--- it is within the limits, and is searched
-pub task_searched : (c : Asked) (g : Ground) (i : Initial) (table : TagTable) (r : Result Outcome Memory) → FitsLimits (task_of g table) usual
-    → IfOk r (λ o. (found : Found) × Finds (task_of g table) c.budget found × TellsBench c g i table found o) → IfOk r (BenchesGround c g i table)
-task_searched c g i table (Ok o) fits h = searched h.0 fits h.1 h.2
-task_searched c g i table (Err m) fits h = tt
-
--- what is found is told
-pub found_told : (c : Asked) (g : Ground) (i : Initial) (table : TagTable) (task : Task) (budget : ℕ) (found : Found) (r : Result Outcome Memory) → Finds task budget found → IfOk r (TellsBench c g i table found)
-    → IfOk r (λ o. (found : Found) × Finds task budget found × TellsBench c g i table found o)
-found_told c g i table task budget found (Ok o) finds told = (found, finds, told)
-found_told c g i table task budget found (Err m) finds told = tt
+use Rattle.kp_run_bench.specs.Bench.{SumsUp}
 
 -- a summary is printed
 pub summary_printed : (c : Asked) (g : Ground) (i : Initial) (table : TagTable) (ls : List Lit) (steps expanded : ℕ) (o : Outcome) → AreUncovered g i table ls → o ≡ prints (summary_text c g table ls steps expanded)

@@ -4,7 +4,6 @@ use Rattle.kp_base.specs.declared.ground.Ground.{Ground}
 use Rattle.kp_base.specs.declared.ground.Initial.{Initial}
 use Rattle.kp_base.specs.declared.ground.TagTable.{TagTable}
 use Rattle.kp_base.specs.declared.lit.Lit.{Lit}
-use Rattle.kp_base.specs.declared.refused.Refused.{Refused}
 use Rattle.kp_base.specs.declared.refused.Texts.{Texts}
 use Rattle.kp_base.specs.Covering.{AreUncovered}
 use Rattle.kp_base.specs.Machine.{MachineStep, stripped}
@@ -15,21 +14,19 @@ use Rattle.kp_search.specs.declared.found.Found.{Found}
 use Rattle.kp_search.specs.declared.found.Found.TheVariants.{Plan, NoPlan, Spent}
 use Rattle.kp_law_ktask.specs.Task.{task_of}
 use Rattle.kp_law_ktask.specs.Accepted.{op_number}
-use Rattle.kp_ktask.specs.Translated.{FitsLimits, RefusesTask}
 use Rattle.kp_law_translation.specs.OfTrees.{ground_of, initial_of}
 use Rattle.kp_gen.specs.Line.{line_texts}
 use Rattle.kp_gen.specs.Bombs.{bombs_texts}
-use Rattle.kp_run_messages.specs.Refusals.{nothing}
 use Rattle.kp_run_outcome.specs.declared.outcome.Outcome.{Outcome}
 use Rattle.kp_run_outcome.specs.Printing.{prints}
 use Rattle.kp_words.specs.declared.source.Family.{Family}
 use Rattle.kp_words.specs.declared.source.Family.TheVariants as families
 use Rattle.kp_words.specs.Asked.{of_mode, Asked}
 use Rattle.kp_words.specs.Options.{usual_limit}
-use Rattle.kp_run_prepare.specs.Refusing.{refuses}
-use Rattle.kp_run_prepare.specs.Prepared.{usual, Comes}
+use Rattle.kp_run_prepare.specs.Prepared.{Comes}
 use Rattle.kp_run_inputs.specs.SourceTables.{ComesByTable}
-use Rattle.kp_run_solve.specs.Solving.{Finds, TellsSolved}
+use Rattle.kp_run_inputs.specs.Tasks.{ComesByTask}
+use Rattle.kp_run_solve.specs.Solving.{Searches, TellsSolved}
 use Rattle.kp_run_bench.specs.Summary.{summary_text}
 
 -- ---- the problem
@@ -63,9 +60,8 @@ TellsBench c g i table (Spent n) o = TellsSolved None g i table (Spent n) o
 -- ---- the run
 
 -- a ground problem with a table comes to this: the refusal of its task; or what is told of what the search finds
-pub data BenchesGround (c : Asked) (g : Ground) (i : Initial) (table : TagTable) (o : Outcome) : Type 0 where
-  over : (r : Refused) → RefusesTask (task_of g table) usual r → o ≡ refuses nothing r → BenchesGround c g i table o
-  searched : (found : Found) → FitsLimits (task_of g table) usual → Finds (task_of g table) c.budget found → TellsBench c g i table found o → BenchesGround c g i table o
+abbrev pub BenchesGround : Asked → Ground → Initial → TagTable → Outcome → Type 0
+BenchesGround c g i table o = ComesByTask g table (Searches (task_of g table) c.budget (TellsBench c g i table)) o
 
 -- two trees do, with the table of the run's mode
 abbrev pub BenchesTrees : Asked → Domain Word → Problem Word → Outcome → Type 0

@@ -3,7 +3,6 @@ ghost use Rattle.std.specs.Prelude.{◌≡◌, ◌<◌, ◌++◌, ◌∷◌, [],
 ghost use Rattle.std.specs.List.{list_all};
 ghost use Rattle.kp_primes.specs.Held.{formula};
 ghost use Rattle.kp_check.specs.Judging.{IsVerdict};
-ghost use Rattle.kp_run_prepare.specs.Prepared.{IsUsable};
 ghost use Rattle.kp_run_solve.specs.Operators.{acts_among};
 
 use kp_base::{Ground, Memory, Row};
@@ -34,8 +33,7 @@ pub fn actions_among(alloc: Global, ground: &Ground, operators: &[u32]) -> Resul
 
 /// Whether actions work from every initial state, which is checked. So many as 2,147,483,648 are want of memory.
 pub fn judge(alloc: Global, prepared: &Prepared, numbers: &Row<u32>) -> Result<Judged, Memory>
-    requires usable { IsUsable prepared.now }
-    requires inside { list_all (λ m. nat_lt m (length prepared.now.ground.actions)) numbers.now ≡ true }
+    requires { list_all (λ m. nat_lt m (length prepared.now.ground.actions)) numbers.now ≡ true }
     ensures { IfOk result (IsVerdict prepared.now.primes.atoms prepared.now.ground (formula prepared.now.primes) numbers.now) }
 {
     if numbers.len() >= 2_147_483_648 {

@@ -1,11 +1,12 @@
 //! The summary of a run.
 ghost use Rattle.std.specs.Prelude.{◌≡◌, ◌++◌, codes, IfOk, OnOk};
+ghost use Rattle.kp_base.specs.declared.ground.TagTable.{TagTable as Table};
 ghost use Rattle.kp_ktask_texts.specs.Translations.{translation_with};
 ghost use Rattle.kp_words.specs.Options.{family_word};
 ghost use Rattle.kp_plans_spelling.specs.Spelling.{number_line};
 ghost use Rattle.kp_run_bench.specs.Summary.{word_line, summary_text};
 
-use kp_base::{Ground, Lit, Memory, Row, TagTable};
+use kp_base::{Ground, Lit, Memory, Row};
 use kp_plans_spelling::{put, put_count};
 use kp_run_messages::put_coverage;
 use kp_words::{Asked, Family};
@@ -53,16 +54,13 @@ pub fn summary(
     alloc: Global,
     command: &Asked<'_>,
     ground: &Ground,
-    table: &TagTable,
     counts: &[u8],
     uncovered: &[Lit],
     steps: usize,
     expanded: u32,
 ) -> Result<Row<u8>, Memory>
-    requires { counts.now ≡ (translation_with ground.now table.now).counts }
-    ensures { IfOk result (λ text. text ≡ summary_text command.now ground.now table.now uncovered.now steps expanded) }
+    ensures { (table : Table) → counts.now ≡ (translation_with ground.now table).counts → IfOk result (λ text. text ≡ summary_text command.now ground.now table uncovered.now steps expanded) }
 {
-    let _ = table;
     let mut out = Vec::new(alloc);
     put_problem(&mut out, command.family, command.size)?;
     put(&mut out, counts)?;

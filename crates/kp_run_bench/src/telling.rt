@@ -2,13 +2,9 @@
 ghost use Rattle.std.specs.Prelude.{◌≡◌, List, IfOk};
 ghost use Rattle.kp_base.specs.declared.lit.Lit.{Lit as Literal};
 ghost use Rattle.kp_base.specs.Covering.{AreUncovered};
-ghost use Rattle.kp_primes.specs.Held.{formula};
-ghost use Rattle.kp_relevance.specs.Relevant.{ArePairsOf};
-ghost use Rattle.kp_law_ktask.specs.Task.{task_of};
-ghost use Rattle.kp_ktask.specs.Translated.{FitsLimits};
 ghost use Rattle.kp_ktask_texts.specs.Translations.{translation_with};
 ghost use Rattle.kp_search.specs.Ends.{Tells};
-ghost use Rattle.kp_run_prepare.specs.Prepared.{usual, IsUsable};
+ghost use Rattle.kp_run_inputs.specs.Tabled.{ground_in, formula_in};
 ghost use Rattle.kp_run_bench.specs.Summary.{summary_text};
 ghost use Rattle.kp_run_bench.specs.Bench.{SumsUp, TellsBench};
 ghost use Rattle.kp_run_bench.specs.Working.{ArePlan, IsSafe};
@@ -16,25 +12,23 @@ ghost use Rattle.kp_run_outcome.specs.Printing.{prints};
 
 use crate::judging::{actions_among, judge};
 use crate::summary::summary;
-use kp_base::{Ground, Limits, Memory, Row, Stop, TagTable};
+use kp_base::{Limits, Memory, Row, Stop};
 use kp_check::Judged;
-use kp_classic::Task;
-use kp_cover::coverage;
 use kp_ktask_texts::translation_with;
-use kp_relevance::Relevance;
+use kp_run_inputs::Translated;
 use kp_run_outcome::{Outcome, Status};
-use kp_run_prepare::Prepared;
 use kp_run_solve::tell_solved;
 use kp_search::Found;
 use kp_words::Asked;
 use std::alloc::Global;
 
 // The counts of a translation that is within the limits.
-fn counts_of(alloc: Global, ground: &Ground, table: &TagTable) -> Result<Row<u8>, Memory>
-    requires { FitsLimits (task_of ground.now table.now) usual }
-    ensures { IfOk result (λ counts. counts ≡ (translation_with ground.now table.now).counts) }
+fn counts_of(alloc: Global, translated: &Translated) -> Result<Row<u8>, Memory>
+    ensures { IfOk result (λ counts. counts ≡ (translation_with (ground_in translated.now.tabled) translated.now.tabled.table).counts) }
 {
-    match translation_with(alloc, ground, table, &Limits::usual()) {
+    let tabled = &translated.tabled;
+    let ground = &tabled.related.prepared.ground;
+    match translation_with(alloc, ground, &tabled.table, &Limits::usual()) {
         Ok(translation) => Ok(translation.counts),
         Err(Stop::Refused(_)) => unreachable!(),
         Err(Stop::Memory) => Err(Memory),
@@ -56,25 +50,18 @@ fn print_summary(alloc: Global, text: Row<u8>) -> Outcome
 fn sum_up(
     alloc: Global,
     command: &Asked<'_>,
-    prepared: &Prepared,
-    relevance: &Relevance,
-    table: &TagTable,
+    translated: &Translated,
     steps: usize,
     expanded: u32,
 ) -> Result<Outcome, Memory>
-    requires usable { IsUsable prepared.now }
-    requires relevance { ArePairsOf prepared.now.ground relevance.now }
-    requires safe { IsSafe prepared.now.ground (formula prepared.now.primes) table.now }
-    requires fits { FitsLimits (task_of prepared.now.ground table.now) usual }
-    ensures { IfOk result (λ o. (uncovered : List Literal) × AreUncovered prepared.now.ground (formula prepared.now.primes) table.now uncovered × (o ≡ prints (summary_text command.now prepared.now.ground table.now uncovered steps expanded))) }
+    ensures { IfOk result (λ o. (uncovered : List Literal) × AreUncovered (ground_in translated.now.tabled) (formula_in translated.now.tabled) translated.now.tabled.table uncovered × (o ≡ prints (summary_text command.now (ground_in translated.now.tabled) translated.now.tabled.table uncovered steps expanded))) }
 {
-    let coverage = coverage(alloc, &prepared.ground, &prepared.primes, relevance, table)?;
-    let counts = counts_of(alloc, &prepared.ground, table)?;
+    let coverage = translated.tabled.coverage(alloc)?;
+    let counts = counts_of(alloc, translated)?;
     let text = summary(
         alloc,
         command,
-        &prepared.ground,
-        table,
+        &translated.tabled.related.prepared.ground,
         counts.slice(),
         coverage.uncovered.slice(),
         steps,
@@ -87,65 +74,38 @@ fn sum_up(
 fn tell_plan(
     alloc: Global,
     command: &Asked<'_>,
-    prepared: &Prepared,
-    relevance: &Relevance,
-    table: &TagTable,
+    translated: &Translated,
     operators: &Row<u32>,
     expanded: u32,
 ) -> Result<Outcome, Memory>
-    requires usable { IsUsable prepared.now }
-    requires relevance { ArePairsOf prepared.now.ground relevance.now }
-    requires safe { IsSafe prepared.now.ground (formula prepared.now.primes) table.now }
-    requires fits { FitsLimits (task_of prepared.now.ground table.now) usual }
-    requires plan { ArePlan (task_of prepared.now.ground table.now) operators.now }
-    ensures { IfOk result (SumsUp command.now prepared.now.ground (formula prepared.now.primes) table.now operators.now expanded) }
+    requires safe { IsSafe (ground_in translated.now.tabled) (formula_in translated.now.tabled) translated.now.tabled.table }
+    requires plan { ArePlan translated.now.task operators.now }
+    ensures { IfOk result (SumsUp command.now (ground_in translated.now.tabled) (formula_in translated.now.tabled) translated.now.tabled.table operators.now expanded) }
 {
+    let prepared = &translated.tabled.related.prepared;
     let numbers = actions_among(alloc, &prepared.ground, operators.slice())?;
     match judge(alloc, prepared, &numbers)? {
-        Judged::Yes => sum_up(
-            alloc,
-            command,
-            prepared,
-            relevance,
-            table,
-            numbers.len(),
-            expanded,
-        ),
+        Judged::Yes => sum_up(alloc, command, translated, numbers.len(), expanded),
         Judged::No { .. } => unreachable!(),
     }
 }
 
-/// What is told of what the search of the task of a table finds, which is within the limits.
+/// What is told of what the search of the task of a problem with a table finds.
 pub fn tell_found(
     alloc: Global,
     command: &Asked<'_>,
-    prepared: &Prepared,
-    relevance: &Relevance,
-    table: &TagTable,
-    task: &Task,
+    translated: &Translated,
     found: Found,
 ) -> Result<Outcome, Memory>
-    requires usable { IsUsable prepared.now }
-    requires relevance { ArePairsOf prepared.now.ground relevance.now }
-    requires safe { IsSafe prepared.now.ground (formula prepared.now.primes) table.now }
-    requires fits { FitsLimits (task_of prepared.now.ground table.now) usual }
-    requires task { task.now ≡ task_of prepared.now.ground table.now }
-    requires tells { Tells task.now command.now.budget found }
-    ensures { IfOk result (TellsBench command.now prepared.now.ground (formula prepared.now.primes) table.now found) }
+    requires safe { IsSafe (ground_in translated.now.tabled) (formula_in translated.now.tabled) translated.now.tabled.table }
+    requires tells { Tells translated.now.task command.now.budget found }
+    ensures { IfOk result (TellsBench command.now (ground_in translated.now.tabled) (formula_in translated.now.tabled) translated.now.tabled.table found) }
 {
     match found {
-        Found::Plan { ops, expanded } => {
-            tell_plan(alloc, command, prepared, relevance, table, &ops, expanded)
+        Found::Plan { ops, expanded } => tell_plan(alloc, command, translated, &ops, expanded),
+        Found::NoPlan => tell_solved(alloc, None, translated, Found::NoPlan),
+        Found::Spent { expanded } => {
+            tell_solved(alloc, None, translated, Found::Spent { expanded })
         }
-        Found::NoPlan => tell_solved(alloc, None, prepared, relevance, table, task, Found::NoPlan),
-        Found::Spent { expanded } => tell_solved(
-            alloc,
-            None,
-            prepared,
-            relevance,
-            table,
-            task,
-            Found::Spent { expanded },
-        ),
     }
 }

@@ -1,3 +1,5 @@
+ghost use Rattle.kp_classic.specs.Fits.{IsFit};
+
 use kp_base::Ground;
 use kp_classic::Task;
 
@@ -8,4 +10,5 @@ pub struct Posed {
     pub ground: Ground,
     /// Its task: fact i is atom i, and operator i is action i.
     pub task: Task,
+    pub ghost fit: { IsFit task },
 }

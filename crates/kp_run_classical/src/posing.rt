@@ -1,10 +1,9 @@
-ghost use Rattle.std.specs.Prelude.{◌≡◌, Some, None, List, ℕ, IfOk, length};
+ghost use Rattle.std.specs.Prelude.{◌≡◌, Some, None, List, ℕ, length};
 ghost use Rattle.kp_base.specs.Implicates.{IsOfItsAtoms};
 ghost use Rattle.kp_base.specs.Files.{most_bytes};
 ghost use Rattle.kp_ground_semantics.specs.Ground.{ground_of};
 ghost use Rattle.kp_init.specs.Initial.{initial_of};
 ghost use Rattle.kp_names.specs.View.{lifted_view};
-ghost use Rattle.kp_classic.specs.Fits.{IsFit};
 ghost use Rattle.kp_outside.specs.Outside.{IsFront, IsWithin};
 ghost use Rattle.kp_run_prepare.specs.Texts.{IsProblemOf};
 ghost use Rattle.kp_run_classical.specs.Certain.{SaysAtMostOneState};
@@ -26,8 +25,7 @@ use std::alloc::Global;
 fn pose(alloc: Global, ground: Ground, initial: &Initial) -> Result<Posed, Early>
     requires of_atoms { IsOfItsAtoms ground }
     requires certain { SaysAtMostOneState (length ground.atoms) initial.now }
-    ensures fit { IfOk result (λ x. IsFit x.task) }
-    ensures answers { AnswersFormula ground initial.now result }
+    ensures { AnswersFormula ground initial.now result }
 {
     if !has_model(alloc, ground.atoms.len() as u32, initial)? {
         return Err(ended_by(alloc, Stop::Refused(Refused::NoInitialState)));
@@ -41,8 +39,7 @@ fn on_ground(alloc: Global, lifted: &Lifted, made: Ground) -> Result<Posed, Earl
     requires facts { HasFacts (lifted_view lifted.now) }
     requires ground { made ≡ ground_of (lifted_view lifted.now) }
     requires of_atoms { IsOfItsAtoms made }
-    ensures fit { IfOk result (λ x. IsFit x.task) }
-    ensures answers { AnswersFormula (ground_of (lifted_view lifted.now)) (initial_of (lifted_view lifted.now)) result }
+    ensures { AnswersFormula (ground_of (lifted_view lifted.now)) (initial_of (lifted_view lifted.now)) result }
 {
     let formula = initial(alloc, lifted, &made)?;
     pose(alloc, made, &formula)
@@ -51,8 +48,7 @@ fn on_ground(alloc: Global, lifted: &Lifted, made: Ground) -> Result<Posed, Earl
 // The same with a problem by number: by its ground problem, or at a limit.
 fn on_certain(alloc: Global, lifted: &Lifted) -> Result<Posed, Early>
     requires facts { HasFacts (lifted_view lifted.now) }
-    ensures fit { IfOk result (λ x. IsFit x.task) }
-    ensures answers { AnswersNumbers (lifted_view lifted.now) result }
+    ensures { AnswersNumbers (lifted_view lifted.now) result }
 {
     match ground(alloc, lifted, &Limits::classical()) {
         Ok(made) => on_ground(alloc, lifted, made),
@@ -63,8 +59,7 @@ fn on_certain(alloc: Global, lifted: &Lifted) -> Result<Posed, Early>
 // The same, if nothing leaves the initial state open.
 fn on_problem(alloc: Global, lifted: &Lifted) -> Result<Posed, Early>
     requires facts { lifted.now.unsure ≡ None → HasFacts (lifted_view lifted.now) }
-    ensures fit { IfOk result (λ x. IsFit x.task) }
-    ensures answers { (d p : List ℕ) → IsProblemOf d p lifted.now → AnswersClassical d p result }
+    ensures { (d p : List ℕ) → IsProblemOf d p lifted.now → AnswersClassical d p result }
 {
     match lifted.unsure {
         Some(place) => Err(ended_by(alloc, Stop::Refused(Refused::NotClassical(place)))),
@@ -77,8 +72,7 @@ fn on_problem(alloc: Global, lifted: &Lifted) -> Result<Posed, Early>
 pub fn prepare_classical(alloc: Global, domain: Got, problem: Got) -> Result<Posed, Early>
     requires domain { IsWithin most_bytes domain }
     requires problem { IsWithin most_bytes problem }
-    ensures fit { IfOk result (λ x. IsFit x.task) }
-    ensures answers { (d p : List ℕ) → IsFront (Some d) most_bytes domain → IsFront (Some p) most_bytes problem → AnswersClassical d p result }
+    ensures { (d p : List ℕ) → IsFront (Some d) most_bytes domain → IsFront (Some p) most_bytes problem → AnswersClassical d p result }
 {
     match read_files(alloc, domain, problem) {
         Ok(lifted) => on_problem(alloc, &lifted),

@@ -8,6 +8,9 @@ pub mod SomeTable
 pub mod OnePlan
 pub mod Ended
 pub mod Commands
+pub mod Relevances
 pub mod Going
+pub mod Origins
 pub mod TablesFor
 pub mod Named
+pub mod EmptyTags

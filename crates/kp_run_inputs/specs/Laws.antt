@@ -1,4 +1,4 @@
--- What is proved of the tables of sources, and of the actions of plans.
+-- What is proved of the tables of sources, of the empty tag alone, and of the actions of plans.
 use Rattle.std.specs.Prelude.{◌≡◌, ◌⊎◌, ℕ, List, length}
 use Rattle.kp_base.specs.declared.ground.Ground.{Ground}
 use Rattle.kp_base.specs.declared.ground.Initial.{Initial}
@@ -8,6 +8,13 @@ use Rattle.kp_base.specs.declared.refused.Refused.{Refused}
 use Rattle.kp_base.specs.Covering.{IsComplete}
 use Rattle.kp_base.specs.Implicates.{IsOfItsAtoms}
 use Rattle.kp_base.specs.Entailed.{HaveSameModels, IsTable, AreValid}
+use Rattle.kp_tree_grammar.specs.declared.tree.Word.{Word}
+use Rattle.kp_tree_grammar.specs.Trees.{Domain, Problem}
+use Rattle.kp_law_ktask.specs.Task.{task_of}
+use Rattle.kp_ktask.specs.Translated.{FitsLimits}
+use Rattle.kp_law_translation.specs.OfTrees.{ground_of}
+use Rattle.kp_law_translation.specs.Tables.{empty_tag}
+use Rattle.kp_run_prepare.specs.Prepared.{usual, IsSmall}
 use Rattle.kp_plans.specs.declared.step.PlanStep.{PlanStep}
 use Rattle.kp_tags_modes.specs.Modes.{CoversEach}
 use Rattle.kp_law_decidable.specs.Laws.{AreProper}
@@ -47,6 +54,10 @@ pub record IsAlike (g : Ground) (i j : Initial) (source : Source) (merges : List
 
 abbrev pub SourcesGoByModels : Type 0
 SourcesGoByModels = (g : Ground) (i j : Initial) (source : Source) (merges : List (List ℕ)) → HaveSameModels i j → IsAlike g i j source merges
+
+-- where the ground problem of two trees is within the limits, its task with the empty tag alone is, too
+abbrev pub EmptyTagsFit : Type 0
+EmptyTagsFit = (d : Domain Word) (p : Problem Word) → IsSmall d p → FitsLimits (task_of (ground_of d p) (empty_tag d p)) usual
 
 -- ---- plans
 

@@ -1,6 +1,5 @@
 ghost use Rattle.std.specs.Prelude.{◌≡◌, ◌<◌, Some, List, ℕ, true, nat_lt, IfOk, length};
 ghost use Rattle.std.specs.List.{list_all};
-ghost use Rattle.kp_base.specs.Implicates.{IsOfItsAtoms};
 ghost use Rattle.kp_outside.specs.Outside.{IsFront, IsWithin};
 ghost use Rattle.kp_plans.specs.PlanFiles.{step_names};
 ghost use Rattle.kp_base.specs.declared.refused.Stop.TheVariants as causes;
@@ -12,7 +11,7 @@ use kp_base::{Ground, GroundName, Memory, Part, Refused, Row, Stop};
 use kp_outside::Got;
 use kp_plans::{PlanStep, find_steps, read_plan};
 use kp_run_messages::Nameable;
-use kp_run_prepare::{Early, ended_by, refuse_with};
+use kp_run_prepare::{Early, Prepared, ended_by, refuse_with};
 use std::alloc::Global;
 
 // The names of steps.
@@ -45,34 +44,32 @@ fn end_at_step(alloc: Global, ground: &Ground, steps: Row<PlanStep>, refused: Re
 }
 
 // The actions that steps name.
-fn numbers_of(alloc: Global, ground: &Ground, steps: Row<PlanStep>) -> Result<Row<u32>, Early>
-    requires ground { IsOfItsAtoms ground.now }
-    requires few { length steps < 2147483648 }
-    ensures answers { AnswersSteps ground.now steps result }
-    ensures inside { IfOk result (λ ns. list_all (λ n. nat_lt n (length ground.now.actions)) ns ≡ true) }
+fn numbers_of(alloc: Global, prepared: &Prepared, steps: Row<PlanStep>) -> Result<Row<u32>, Early>
+    requires { length steps < 2147483648 }
+    ensures answers { AnswersSteps prepared.now.ground steps result }
+    ensures inside { IfOk result (λ ns. list_all (λ n. nat_lt n (length prepared.now.ground.actions)) ns ≡ true) }
     ensures few { IfOk result (λ ns. length ns < 2147483648) }
 {
-    match find_steps(alloc, ground, &steps) {
+    match find_steps(alloc, &prepared.ground, &steps) {
         Ok(numbers) => Ok(numbers),
-        Err(Stop::Refused(refused)) => Err(end_at_step(alloc, ground, steps, refused)),
+        Err(Stop::Refused(refused)) => Err(end_at_step(alloc, &prepared.ground, steps, refused)),
         Err(Stop::Memory) => Err(Early::Memory),
     }
 }
 
 /// The actions that the steps of a plan file name, of which at most 16,777,216 bytes were read; or the outcome with
 /// which a command ends that has none.
-pub fn actions_of(alloc: Global, ground: &Ground, plan: Got) -> Result<Row<u32>, Early>
-    requires ground { IsOfItsAtoms ground.now }
-    requires within { IsWithin most_bytes plan }
-    ensures answers { (text : List ℕ) → IsFront (Some text) most_bytes plan → AnswersActions ground.now text result }
-    ensures inside { IfOk result (λ ns. list_all (λ n. nat_lt n (length ground.now.actions)) ns ≡ true) }
+pub fn actions_of(alloc: Global, prepared: &Prepared, plan: Got) -> Result<Row<u32>, Early>
+    requires { IsWithin most_bytes plan }
+    ensures answers { (text : List ℕ) → IsFront (Some text) most_bytes plan → AnswersActions prepared.now.ground text result }
+    ensures inside { IfOk result (λ ns. list_all (λ n. nat_lt n (length prepared.now.ground.actions)) ns ≡ true) }
     ensures few { IfOk result (λ ns. length ns < 2147483648) }
 {
     if plan.more {
         return Err(ended_by(alloc, Stop::Refused(Refused::TooLong(Part::Plan))));
     }
     match read_plan(alloc, plan.bytes.slice()) {
-        Ok(steps) => numbers_of(alloc, ground, steps),
+        Ok(steps) => numbers_of(alloc, prepared, steps),
         Err(stop) => Err(ended_by(alloc, stop)),
     }
 }

@@ -1,6 +1,6 @@
 //! Laws of the tables of sources and of the actions of plans, each proved as the contract of a function that does nothing.
 
-ghost use Rattle.kp_run_inputs.specs.Laws.{PlansAreDecided, PlansHaveOneList, SomeTablesAreComplete, SourcesAreDecided, SourcesGoByModels, SourcesHaveOneTable, TablesAreRight};
+ghost use Rattle.kp_run_inputs.specs.Laws.{EmptyTagsFit, PlansAreDecided, PlansHaveOneList, SomeTablesAreComplete, SourcesAreDecided, SourcesGoByModels, SourcesHaveOneTable, TablesAreRight};
 
 /// The table of a source is right, and its merges are valid.
 #[tactic(auto, using(crate::proofs::Right::tables_right))]
@@ -28,6 +28,12 @@ pub fn sources_are_decided()
 #[tactic(auto, using(crate::proofs::ByModels::alike))]
 pub fn sources_go_by_models()
     ensures { SourcesGoByModels }
+{}
+
+/// No limit on facts or weight is passed with the empty tag alone.
+#[tactic(auto, using(crate::proofs::EmptyTags::empty_tags_fit))]
+pub fn empty_tags_fit()
+    ensures { EmptyTagsFit }
 {}
 
 /// A plan file names one list of actions, or has one refusal, and never both.

@@ -1,42 +1,35 @@
 ghost use Rattle.std.specs.Prelude.{◌≡◌, ◌∷◌, ℕ, List, [], Some, true};
 ghost use Rattle.std.specs.List.{list_all};
-ghost use Rattle.kp_base.specs.declared.ground.Initial.{Initial as Formula};
-ghost use Rattle.kp_base.specs.Entailed.{HaveSameModels};
 ghost use Rattle.kp_base.specs.Files.{most_bytes};
 ghost use Rattle.kp_outside.specs.Outside.{IsFront, IsWithin};
 ghost use Rattle.kp_primes.specs.Held.{formula};
-ghost use Rattle.kp_relevance.specs.Relevant.{ArePairsOf};
 ghost use Rattle.kp_tags.specs.MergeTables.{has_tags_of_atoms};
 ghost use Rattle.kp_words.specs.Asked.{Source, of_mode, of_file};
-ghost use Rattle.kp_run_prepare.specs.Prepared.{IsUsable};
+ghost use Rattle.kp_run_prepare.specs.Prepared.{IsPreparedOf};
 ghost use Rattle.kp_run_inputs.specs.SourceTables.{IsOrigin, IsShort, AnswersTable, AnswersMerges};
+ghost use Rattle.kp_run_inputs.specs.Tabled.{AnswersTabled};
 
 use crate::origin::Origin;
+use crate::related::Related;
+use crate::tabled::Tabled;
 use kp_base::{Limits, Mode, Part, Refused, Row, Stop, TagTable};
 use kp_outside::Got;
-use kp_relevance::Relevance;
-use kp_run_prepare::{Early, Prepared, ended_by, ended_in};
+use kp_run_prepare::{Early, Prepared, ended_by, ended_in, prepare};
 use kp_tags::{accept_merges, make};
 use kp_tags_files::{FileMerge, read_merges};
 use std::alloc::Global;
 
 // The table of a mode.
-fn table_in(
-    alloc: Global,
-    prepared: &Prepared,
-    relevance: &Relevance,
-    mode: Mode,
-) -> Result<TagTable, Early>
-    requires usable { IsUsable prepared.now }
-    requires relevance { ArePairsOf prepared.now.ground relevance.now }
-    ensures { (j : Formula) → HaveSameModels (formula prepared.now.primes) j → AnswersTable prepared.now.ground j (of_mode mode) [] result }
+fn table_in(alloc: Global, related: &Related, mode: Mode) -> Result<TagTable, Early>
+    ensures { AnswersTable related.now.prepared.ground (formula related.now.prepared.primes) (of_mode mode) [] result }
 {
+    let prepared = &related.prepared;
     match make(
         alloc,
         mode,
         &prepared.ground,
         &prepared.primes,
-        relevance,
+        &related.relevance,
         &Limits::usual(),
     ) {
         Ok(table) => Ok(table),
@@ -57,9 +50,8 @@ fn table_for(alloc: Global, prepared: &Prepared, merges: &Row<FileMerge>) -> Res
 
 // The table of a file of merges, of which at most 16,777,216 bytes were read.
 fn table_with(alloc: Global, prepared: &Prepared, merges: Got) -> Result<TagTable, Early>
-    requires within { IsWithin most_bytes merges }
-    requires usable { IsUsable prepared.now }
-    ensures { (name text : List ℕ) (j : Formula) → IsFront (Some text) most_bytes merges → HaveSameModels (formula prepared.now.primes) j → AnswersTable prepared.now.ground j (of_file name) (text ∷ []) result }
+    requires { IsWithin most_bytes merges }
+    ensures { (name text : List ℕ) → IsFront (Some text) most_bytes merges → AnswersTable prepared.now.ground (formula prepared.now.primes) (of_file name) (text ∷ []) result }
 {
     if merges.more {
         return Err(ended_by(alloc, Stop::Refused(Refused::TooLong(Part::Merges))));
@@ -70,36 +62,45 @@ fn table_with(alloc: Global, prepared: &Prepared, merges: Got) -> Result<TagTabl
     }
 }
 
-/// The table of a mode or of a file of merges, of which at most 16,777,216 bytes were read; or the outcome with which a
-/// command ends that has none.
-pub fn table_of(
-    alloc: Global,
-    prepared: &Prepared,
-    relevance: &Relevance,
-    origin: Origin,
-) -> Result<TagTable, Early>
-    requires short { IsShort origin }
-    requires usable { IsUsable prepared.now }
-    requires relevance { ArePairsOf prepared.now.ground relevance.now }
-    ensures { (source : Source) (merges : List (List ℕ)) (j : Formula) → IsOrigin source merges origin → HaveSameModels (formula prepared.now.primes) j → AnswersTable prepared.now.ground j source merges result }
+// The table of a mode or of a file of merges.
+fn table_of(alloc: Global, related: &Related, origin: Origin) -> Result<TagTable, Early>
+    requires { IsShort origin }
+    ensures { (source : Source) (merges : List (List ℕ)) → IsOrigin source merges origin → AnswersTable related.now.prepared.ground (formula related.now.prepared.primes) source merges result }
 {
     match origin {
-        Origin::Mode(mode) => table_in(alloc, prepared, relevance, mode),
-        Origin::Merges(merges) => table_with(alloc, prepared, merges),
+        Origin::Mode(mode) => table_in(alloc, related, mode),
+        Origin::Merges(merges) => table_with(alloc, &related.prepared, merges),
     }
 }
 
-/// The same where relevance is asked for nothing else.
-pub fn table_alone(alloc: Global, prepared: &Prepared, origin: Origin) -> Result<TagTable, Early>
-    requires short { IsShort origin }
-    requires usable { IsUsable prepared.now }
-    ensures { (source : Source) (merges : List (List ℕ)) (j : Formula) → IsOrigin source merges origin → HaveSameModels (formula prepared.now.primes) j → AnswersTable prepared.now.ground j source merges result }
+// A prepared problem with its table.
+fn with_table(alloc: Global, prepared: Prepared, origin: Origin) -> Result<Tabled, Early>
+    requires { IsShort origin }
+    ensures { (limit : ℕ) (d p : List ℕ) (source : Source) (merges : List (List ℕ)) → IsPreparedOf limit d p prepared → IsOrigin source merges origin → AnswersTabled limit d p source merges result }
 {
-    match origin {
-        Origin::Mode(mode) => {
-            let relevance = Relevance::of(alloc, &prepared.ground)?;
-            table_in(alloc, prepared, &relevance, mode)
-        }
-        Origin::Merges(merges) => table_with(alloc, prepared, merges),
+    let related = Related::of(alloc, prepared)?;
+    match table_of(alloc, &related, origin) {
+        Ok(table) => Ok(Tabled { related, table }),
+        Err(early) => Err(early),
+    }
+}
+
+/// The problem of two files, with the table of a mode or of a file of merges, at most 16,777,216 bytes of each of which were
+/// read; or the outcome with which a command ends that has none.
+pub fn tabled_of(
+    alloc: Global,
+    implicates: u32,
+    domain: Got,
+    problem: Got,
+    origin: Origin,
+) -> Result<Tabled, Early>
+    requires domain { IsWithin most_bytes domain }
+    requires problem { IsWithin most_bytes problem }
+    requires origin { IsShort origin }
+    ensures { (d p : List ℕ) (source : Source) (merges : List (List ℕ)) → IsFront (Some d) most_bytes domain → IsFront (Some p) most_bytes problem → IsOrigin source merges origin → AnswersTabled implicates d p source merges result }
+{
+    match prepare(alloc, implicates, domain, problem) {
+        Ok(prepared) => with_table(alloc, prepared, origin),
+        Err(early) => Err(early),
     }
 }

@@ -1,4 +1,5 @@
 pub mod Texts
 pub mod Refusing
+pub mod OwnAtoms
 pub mod Prepared
 pub mod Numbered

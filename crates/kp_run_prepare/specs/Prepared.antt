@@ -5,7 +5,7 @@ use Rattle.kp_base.specs.declared.refused.ClashAt.{ClashAt}
 use Rattle.kp_base.specs.declared.refused.Refused.{Refused}
 use Rattle.kp_base.specs.declared.refused.Refused.TheVariants as refusals
 use Rattle.kp_base.specs.Exclusive.{ClashesFirst, IsClashFree}
-use Rattle.kp_base.specs.Implicates.{IsOfItsAtoms, IsLeastOver, IsNeverOver}
+use Rattle.kp_base.specs.Implicates.{IsLeastOver, IsNeverOver}
 use Rattle.kp_tree_grammar.specs.declared.tree.Word.{Word}
 use Rattle.kp_tree_grammar.specs.Trees.{Domain, Problem}
 use Rattle.kp_names_semantics.specs.Initial.{HasInitialState}
@@ -71,11 +71,6 @@ pub record IsPreparedOf (limit : ℕ) (domain problem : List ℕ) (x : Made) : T
   pub prepared : IsPrepared limit first second
   pub ground : x.ground ≡ ground_of first second
   pub primes : HoldsPrimes (initial_of first second) (length (ground_of first second).atoms) limit x.primes
-
--- both speak of the atoms of the ground problem alone
-pub record IsUsable (x : Made) : Type 0 where
-  pub ground : IsOfItsAtoms x.ground
-  pub atoms : length x.ground.atoms ≡ x.primes.atoms
 
 -- these, or the outcome with which a command ends early
 abbrev pub AnswersPrepared : ℕ → List ℕ → List ℕ → Result Made Early → Type 0

@@ -9,7 +9,7 @@ ghost use Rattle.kp_names.specs.View.{lifted_view};
 ghost use Rattle.kp_outside.specs.Outside.{IsFront, IsWithin};
 ghost use Rattle.kp_primes.specs.Answers.{HoldsPrimes};
 ghost use Rattle.kp_primes.specs.Held.{formula};
-ghost use Rattle.kp_run_prepare.specs.Prepared.{AnswersPrepared, IsUsable};
+ghost use Rattle.kp_run_prepare.specs.Prepared.{AnswersPrepared};
 ghost use Rattle.kp_run_prepare.specs.Refusing.{named_in, EndsBy};
 ghost use Rattle.kp_run_prepare.specs.Numbered.{AnswersGround, AnswersNumbers};
 
@@ -51,8 +51,7 @@ fn without_clash(alloc: Global, ground: Ground, primes: Primes) -> Result<Prepar
     requires counted { IsCounted ground }
     requires of_atoms { IsOfItsAtoms ground }
     requires atoms { primes.atoms ≡ length ground.atoms }
-    ensures usable { IfOk result IsUsable }
-    ensures answers { (l : Numbers) (limit : ℕ) → ground ≡ ground_of l → HoldsPrimes (initial_of l) (length ground.atoms) limit primes → AnswersGround limit l result }
+    ensures { (l : Numbers) (limit : ℕ) → ground ≡ ground_of l → HoldsPrimes (initial_of l) (length ground.atoms) limit primes → AnswersGround limit l result }
 {
     match judge_clashes(alloc, &ground, &primes) {
         Ok(()) => Ok(Prepared { ground, primes }),
@@ -71,8 +70,7 @@ fn on_ground(
     requires few { length made.atoms ≤ 4096 }
     requires counted { IsCounted made }
     requires of_atoms { IsOfItsAtoms made }
-    ensures usable { IfOk result IsUsable }
-    ensures answers { AnswersGround implicates (lifted_view lifted.now) result }
+    ensures { AnswersGround implicates (lifted_view lifted.now) result }
 {
     let formula = initial(alloc, lifted, &made)?;
     let atoms = made.atoms.len() as u32;
@@ -84,8 +82,7 @@ fn on_ground(
 
 // The same of a problem by number: by its ground problem, or at a limit.
 fn on_problem(alloc: Global, implicates: u32, lifted: &Lifted) -> Result<Prepared, Early>
-    ensures usable { IfOk result IsUsable }
-    ensures answers { AnswersNumbers implicates (lifted_view lifted.now) result }
+    ensures { AnswersNumbers implicates (lifted_view lifted.now) result }
 {
     match ground(alloc, lifted, &Limits::usual()) {
         Ok(made) => on_ground(alloc, implicates, lifted, made),
@@ -98,8 +95,7 @@ fn on_problem(alloc: Global, implicates: u32, lifted: &Lifted) -> Result<Prepare
 pub fn prepare(alloc: Global, implicates: u32, domain: Got, problem: Got) -> Result<Prepared, Early>
     requires domain { IsWithin most_bytes domain }
     requires problem { IsWithin most_bytes problem }
-    ensures usable { IfOk result IsUsable }
-    ensures answers { (d p : List ℕ) → IsFront (Some d) most_bytes domain → IsFront (Some p) most_bytes problem → AnswersPrepared implicates d p result }
+    ensures { (d p : List ℕ) → IsFront (Some d) most_bytes domain → IsFront (Some p) most_bytes problem → AnswersPrepared implicates d p result }
 {
     match read_files(alloc, domain, problem) {
         Ok(lifted) => on_problem(alloc, implicates, &lifted),

@@ -5,3 +5,6 @@ pub mod Operators
 pub mod Plans
 pub mod Searches
 pub mod Told
+pub mod PlanLines
+pub mod BothPlans
+pub mod Fitting

@@ -10,6 +10,7 @@ use Rattle.kp_base.specs.Machine.{MachineStep, stripped}
 use Rattle.kp_base.proofs.Cases.{some_alike}
 use Rattle.kp_names_semantics.specs.Steps.{Step}
 use Rattle.kp_cover.proofs.Public.{uncovered_once}
+use Rattle.kp_classic.specs.declared.task.Task.{Task}
 use Rattle.kp_search.specs.declared.found.Found.{Found}
 use Rattle.kp_search.specs.declared.found.Found.TheVariants.{Plan, NoPlan, Spent}
 use Rattle.kp_write.specs.Tasks.{op_step}
@@ -17,14 +18,11 @@ use Rattle.kp_law_ktask.specs.Task.{op_of, merge_op, task_of}
 use Rattle.kp_base.specs.ActionNames.{action_name}
 use Rattle.kp_law_ktask.specs.Accepted.{op_number, step_at}
 use Rattle.kp_lift.specs.Lifting.{IsThere}
-use Rattle.kp_run_messages.specs.Refusals.{nothing}
 use Rattle.kp_run_messages.specs.Searches.{no_plan_text}
 use Rattle.kp_run_outcome.specs.declared.outcome.Outcome.{Outcome}
 use Rattle.kp_run_outcome.specs.Printing.{denies}
-use Rattle.kp_run_prepare.specs.Refusing.{refuses}
-use Rattle.kp_run_prepare.specs.Prepared.{usual}
-use Rattle.kp_ktask.proofs.Public.{task_refused_once, task_refused_or_within}
-use Rattle.kp_run_solve.specs.Solving.{solves, AreNamed, TellsSolved, over, searched, TellsClassical}
+use Rattle.kp_run_inputs.proofs.Public.{by_task_one_outcome}
+use Rattle.kp_run_solve.specs.Solving.{Searches, solves, AreNamed, TellsSolved, TellsClassical}
 use Rattle.kp_run_solve.specs.Laws.{SolvingsHaveOneOutcome, ClassicalSolvingsHaveOneOutcome}
 use Rattle.kp_search.proofs.Public.{has_one_end_by_added}
 
@@ -82,12 +80,12 @@ told_once name g i table (Plan ops n) o u a b =
 told_once name g i table NoPlan o u a b = a.2 ∙ (ap (λ ls. denies (no_plan_text ls)) (uncovered_once g i table a.0 b.0 a.1 b.1) ∙ sym b.2)
 told_once name g i table (Spent n) o u a b = a ∙ sym b
 
+pub searches_once : (task : Task) (budget : ℕ) (told : Found → Outcome → Type 0) → ((found : Found) (o u : Outcome) → told found o → told found u → o ≡ u) → (o u : Outcome) → Searches task budget told o → Searches task budget told u → o ≡ u
+searches_once task budget told one o u a b = one b.found o u (subst (λ z. told z o) (has_one_end_by_added task budget a.found b.found a.finds b.finds) a.tells) b.tells
+
 pub ground_once : SolvingsHaveOneOutcome
-ground_once name budget g i table o u (over r a e) (over s b f) = e ∙ (ap (refuses nothing) (task_refused_once (task_of g table) usual r s a b) ∙ sym f)
-ground_once name budget g i table o u (over r a e) (searched found b finds tells) = absurd (task_refused_or_within (task_of g table) usual r a b)
-ground_once name budget g i table o u (searched found a finds tells) (over s b f) = absurd (task_refused_or_within (task_of g table) usual s b a)
-ground_once name budget g i table o u (searched x a finds tells) (searched y b finds' tells') =
-    told_once name g i table y o u (subst (λ z. TellsSolved name g i table z o) (has_one_end_by_added (task_of g table) budget x y finds finds') tells) tells'
+ground_once name budget g i table o u a b =
+    by_task_one_outcome g table (Searches (task_of g table) budget (TellsSolved name g i table)) (searches_once (task_of g table) budget (TellsSolved name g i table) (told_once name g i table)) o u a b
 
 told_classical_once : (g : Ground) (found : Found) (o u : Outcome) → TellsClassical g found o → TellsClassical g found u → o ≡ u
 told_classical_once g (Plan ops n) o u a b = a.2 ∙ (ap (λ p. solves None p p) (some_alike a.0 b.0 (sym a.1 ∙ b.1)) ∙ sym b.2)
@@ -95,4 +93,4 @@ told_classical_once g NoPlan o u a b = a ∙ sym b
 told_classical_once g (Spent n) o u a b = a ∙ sym b
 
 pub classical_once : ClassicalSolvingsHaveOneOutcome
-classical_once budget g task o u a b = told_classical_once g b.found o u (subst (λ z. TellsClassical g z o) (has_one_end_by_added task budget a.found b.found a.finds b.finds) a.tells) b.tells
+classical_once budget g task o u a b = searches_once task budget (TellsClassical g) (told_classical_once g) o u a b

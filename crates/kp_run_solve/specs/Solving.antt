@@ -4,7 +4,6 @@ use Rattle.kp_base.specs.declared.ground.Ground.{Ground}
 use Rattle.kp_base.specs.declared.ground.Initial.{Initial}
 use Rattle.kp_base.specs.declared.ground.TagTable.{TagTable}
 use Rattle.kp_base.specs.declared.lit.Lit.{Lit}
-use Rattle.kp_base.specs.declared.refused.Refused.{Refused}
 use Rattle.kp_base.specs.Covering.{AreUncovered}
 use Rattle.kp_base.specs.Machine.{MachineStep, stripped}
 use Rattle.kp_names_semantics.specs.Steps.{Step}
@@ -16,21 +15,24 @@ use Rattle.kp_plans.specs.Printed.{plan_text}
 use Rattle.kp_law_ktask.specs.Task.{task_of}
 use Rattle.kp_base.specs.ActionNames.{action_name}
 use Rattle.kp_law_ktask.specs.Accepted.{op_number, step_at}
-use Rattle.kp_ktask.specs.Translated.{FitsLimits, RefusesTask}
-use Rattle.kp_run_messages.specs.Refusals.{nothing}
 use Rattle.kp_run_messages.specs.Searches.{no_plan_line, no_plan_text, spent_text}
 use Rattle.kp_run_outcome.specs.declared.outcome.Outcome.{Outcome}
 use Rattle.kp_run_outcome.specs.declared.status.Status.TheVariants as status
 use Rattle.kp_run_outcome.specs.Printing.{denies}
 use Rattle.kp_words.specs.Command.{if_named}
-use Rattle.kp_run_prepare.specs.Refusing.{refuses}
-use Rattle.kp_run_prepare.specs.Prepared.{usual}
+use Rattle.kp_run_inputs.specs.Tasks.{ComesByTask}
 
 -- ---- what is found
 
 -- the search of a task with this budget, guided by the estimate `added`, ends so
 abbrev pub Finds : Task → ℕ → Found → Type 0
 Finds t budget found = HasEnd t (by_added t) budget found
+
+-- the search of a task comes to this, where so is told of its end
+pub record Searches (task : Task) (budget : ℕ) (told : Found → Outcome → Type 0) (o : Outcome) : Type 0 where
+  pub found : Found
+  pub finds : Finds task budget found
+  pub tells : told found o
 
 -- ---- what is printed
 
@@ -58,9 +60,8 @@ TellsSolved name g i table NoPlan o = (uncovered : List Lit) × AreUncovered g i
 TellsSolved name g i table (Spent n) o = o ≡ spends n
 
 -- a ground problem with a table is solved to this: the refusal of its task; or what is told of what the search finds
-pub data SolvesGround (name : Option (List ℕ)) (budget : ℕ) (g : Ground) (i : Initial) (table : TagTable) (o : Outcome) : Type 0 where
-  over : (r : Refused) → RefusesTask (task_of g table) usual r → o ≡ refuses nothing r → SolvesGround name budget g i table o
-  searched : (found : Found) → FitsLimits (task_of g table) usual → Finds (task_of g table) budget found → TellsSolved name g i table found o → SolvesGround name budget g i table o
+abbrev pub SolvesGround : Option (List ℕ) → ℕ → Ground → Initial → TagTable → Outcome → Type 0
+SolvesGround name budget g i table o = ComesByTask g table (Searches (task_of g table) budget (TellsSolved name g i table)) o
 
 -- ---- `classical`
 
@@ -71,7 +72,5 @@ TellsClassical g NoPlan o = o ≡ denies no_plan_line
 TellsClassical g (Spent n) o = o ≡ spends n
 
 -- a task of a ground problem is solved to this
-pub record SolvesClassical (budget : ℕ) (g : Ground) (task : Task) (o : Outcome) : Type 0 where
-  pub found : Found
-  pub finds : Finds task budget found
-  pub tells : TellsClassical g found o
+abbrev pub SolvesClassical : ℕ → Ground → Task → Outcome → Type 0
+SolvesClassical budget g task o = Searches task budget (TellsClassical g) o

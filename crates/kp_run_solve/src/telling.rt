@@ -1,28 +1,21 @@
 //! What is told of what a search finds.
 ghost use Rattle.std.specs.Prelude.{◌≡◌, true, length, map, nat_lt, option_map, IfOk};
 ghost use Rattle.std.specs.List.{list_all};
-ghost use Rattle.kp_base.specs.Entailed.{IsTable};
-ghost use Rattle.kp_primes.specs.Held.{formula};
-ghost use Rattle.kp_relevance.specs.Relevant.{ArePairsOf};
 ghost use Rattle.kp_plans.specs.Printed.{plan_text};
-ghost use Rattle.kp_law_ktask.specs.Task.{task_of};
 ghost use Rattle.kp_words.specs.Command.{if_named};
-ghost use Rattle.kp_run_prepare.specs.Prepared.{IsUsable};
+ghost use Rattle.kp_run_inputs.specs.Tabled.{ground_in, formula_in};
 ghost use Rattle.kp_search.specs.declared.found.Found.TheVariants as ends;
 ghost use Rattle.kp_run_solve.specs.Operators.{IsInside};
 ghost use Rattle.kp_run_solve.specs.Solving.{solves, spends, TellsSolved, TellsClassical, AreNamed};
 ghost use Rattle.kp_run_outcome.specs.Printing.{denies};
 
 use crate::names::actions_among;
-use kp_base::{Ground, GroundName, Memory, Row, TagTable, Text};
-use kp_classic::Task;
-use kp_cover::coverage;
+use kp_base::{Ground, GroundName, Memory, Row, Text};
 use kp_lift::steps_of;
 use kp_plans::plan_text;
-use kp_relevance::Relevance;
+use kp_run_inputs::{Tabled, Translated};
 use kp_run_messages::{no_classical_plan, no_plan, spent};
 use kp_run_outcome::{FilePut, Outcome, Status};
-use kp_run_prepare::Prepared;
 use kp_search::Found;
 use std::alloc::Global;
 
@@ -84,61 +77,43 @@ fn tell_spent(alloc: Global, expanded: u32) -> Result<Outcome, Memory>
     })
 }
 
-// Operators of the task of a ground problem and a table are told by name.
+// Operators of the task of a problem with a table are told by name.
 fn tell_operators(
     alloc: Global,
     name: Option<&[u8]>,
-    ground: &Ground,
-    table: &TagTable,
-    task: &Task,
+    translated: &Translated,
     operators: &Row<u32>,
 ) -> Result<Outcome, Memory>
-    requires task { task.now ≡ task_of ground.now table.now }
-    requires inside { list_all (λ n. nat_lt n (length task.now.ops)) operators.now ≡ true }
-    ensures { IfOk result (λ o. (written : _) × (plan : _) × AreNamed ground.now table.now operators.now written plan × (o ≡ solves (option_map (λ n. n.now) name.entry) written plan)) }
+    requires { list_all (λ n. nat_lt n (length translated.now.task.ops)) operators.now ≡ true }
+    ensures { IfOk result (λ o. (written : _) × (plan : _) × AreNamed (ground_in translated.now.tabled) translated.now.tabled.table operators.now written plan × (o ≡ solves (option_map (λ n. n.now) name.entry) written plan)) }
 {
-    let _ = table;
-    let written = steps_of(alloc, task, operators)?;
+    let ground = &translated.tabled.related.prepared.ground;
+    let written = steps_of(alloc, &translated.task, operators)?;
     let plan = actions_among(alloc, ground, operators.slice())?;
     tell_plan(alloc, name, written, &plan)
 }
 
 // There is no plan, and it is told whether the table is complete.
-fn tell_no_plan(
-    alloc: Global,
-    prepared: &Prepared,
-    relevance: &Relevance,
-    table: &TagTable,
-) -> Result<Outcome, Memory>
-    requires usable { IsUsable prepared.now }
-    requires relevance { ArePairsOf prepared.now.ground relevance.now }
-    requires table { IsTable prepared.now.ground (formula prepared.now.primes) table.now }
-    ensures { (name : _) → IfOk result (TellsSolved name prepared.now.ground (formula prepared.now.primes) table.now ends.NoPlan) }
+fn tell_no_plan(alloc: Global, tabled: &Tabled) -> Result<Outcome, Memory>
+    ensures { (name : _) → IfOk result (TellsSolved name (ground_in tabled.now) (formula_in tabled.now) tabled.now.table ends.NoPlan) }
 {
-    let coverage = coverage(alloc, &prepared.ground, &prepared.primes, relevance, table)?;
+    let coverage = tabled.coverage(alloc)?;
     Ok(tell_none(alloc, no_plan(alloc, coverage.uncovered.slice())?))
 }
 
-/// What is told of what is found in the task of a table.
+/// What is told of what is found in the task of a problem with a table.
 pub fn tell_solved(
     alloc: Global,
     name: Option<&[u8]>,
-    prepared: &Prepared,
-    relevance: &Relevance,
-    table: &TagTable,
-    task: &Task,
+    translated: &Translated,
     found: Found,
 ) -> Result<Outcome, Memory>
-    requires usable { IsUsable prepared.now }
-    requires relevance { ArePairsOf prepared.now.ground relevance.now }
-    requires table { IsTable prepared.now.ground (formula prepared.now.primes) table.now }
-    requires task { task.now ≡ task_of prepared.now.ground table.now }
-    requires inside { IsInside (length task.now.ops) found }
-    ensures { IfOk result (TellsSolved (option_map (λ n. n.now) name.entry) prepared.now.ground (formula prepared.now.primes) table.now found) }
+    requires { IsInside (length translated.now.task.ops) found }
+    ensures { IfOk result (TellsSolved (option_map (λ n. n.now) name.entry) (ground_in translated.now.tabled) (formula_in translated.now.tabled) translated.now.tabled.table found) }
 {
     match found {
-        Found::Plan { ops, .. } => tell_operators(alloc, name, &prepared.ground, table, task, &ops),
-        Found::NoPlan => tell_no_plan(alloc, prepared, relevance, table),
+        Found::Plan { ops, .. } => tell_operators(alloc, name, translated, &ops),
+        Found::NoPlan => tell_no_plan(alloc, &translated.tabled),
         Found::Spent { expanded } => tell_spent(alloc, expanded),
     }
 }

@@ -11,7 +11,7 @@ use Rattle.kp_run.proofs.check.check_on.Goals as goal
 pub returns-in-Ok : goal.returns-in-Ok
 returns-in-Ok c x y text front second third =
     let n = c.args.asked.now.implicates in
-    let w = subst (AnswersPrepared n x y) c.in-Ok.is (subst (λ k. AnswersPrepared k x y c.prepare.result) (ap (λ (k : Asked). k.implicates) c.asked.view_is) (c.prepare.ensures.answers x y front second)) in
+    let w = subst (AnswersPrepared n x y) c.in-Ok.is (subst (λ k. AnswersPrepared k x y c.prepare.result) (ap (λ (k : Asked). k.implicates) c.asked.view_is) (c.prepare.ensures x y front second)) in
     prepared_goes_on n x y (ChecksTrees text) c.in-Ok.prepared w c.check_plan.result
     (subst (λ g. IfOk c.check_plan.result (ComesByPlan g text (TellsJudged g (initial_of w.first w.second)))) w.ground (c.check_plan.ensures text (initial_of w.first w.second) third w.primes.same_models))
 
@@ -19,4 +19,4 @@ returns-in-Ok c x y text front second third =
 pub returns-in-Err : goal.returns-in-Err
 returns-in-Err c x y text front second third =
     let n = c.args.asked.now.implicates in
-    prepared_ends n x y (ChecksTrees text) c.in-Err.early c.settle.result (subst (AnswersPrepared n x y) c.in-Err.is (subst (λ k. AnswersPrepared k x y c.prepare.result) (ap (λ (k : Asked). k.implicates) c.asked.view_is) (c.prepare.ensures.answers x y front second))) c.settle.ensures
+    prepared_ends n x y (ChecksTrees text) c.in-Err.early c.settle.result (subst (AnswersPrepared n x y) c.in-Err.is (subst (λ k. AnswersPrepared k x y c.prepare.result) (ap (λ (k : Asked). k.implicates) c.asked.view_is) (c.prepare.ensures x y front second))) c.settle.ensures

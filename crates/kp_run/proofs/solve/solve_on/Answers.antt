@@ -1,31 +1,26 @@
-use Rattle.std.proofs.Common.{ap, subst, IfOk}
-use Rattle.kp_law_translation.specs.OfTrees.{initial_of}
-use Rattle.kp_run_prepare.specs.Prepared.{AnswersPrepared}
+use Rattle.std.proofs.Common.{subst, IfOk}
 use Rattle.kp_words.specs.Asked.{Asked, source_of}
-use Rattle.kp_run_inputs.specs.SourceTables.{ComesByTable}
-use Rattle.kp_run_inputs.proofs.Public.{prepared_goes_on, prepared_ends}
+use Rattle.kp_run_inputs.specs.Tabled.{ground_in, formula_in, AnswersTabled}
+use Rattle.kp_run_inputs.proofs.Public.{tabled_goes, tabled_ends}
 use Rattle.kp_run_solve.specs.Solving.{SolvesGround}
-use Rattle.kp_run.specs.Solve.{SolvesTrees}
+use Rattle.kp_run_solve.proofs.Public.{ground_is_solved_by_models}
 use Rattle.kp_run.proofs.Reading.{short_origin}
 use Rattle.kp_run.proofs.solve.solve_on.Goals as goal
 
-pub solve_by-requires-clause-short : goal.solve_by-requires-clause-short
-solve_by-requires-clause-short c = short_origin (source_of c.args.asked.now) c.requires.origin.0 c.args.origin c.requires.origin.1
-
-pub solve_by-requires-clause-origin : goal.solve_by-requires-clause-origin
-solve_by-requires-clause-origin c = (source_of c.args.asked.now, c.requires.origin.0, c.requires.origin.1)
+pub tabled_of-requires-clause-origin : goal.tabled_of-requires-clause-origin
+tabled_of-requires-clause-origin c = short_origin (source_of c.args.asked.now) c.requires.origin.0 c.args.origin c.requires.origin.1
 
 -- the command goes on
 pub returns-in-Ok : goal.returns-in-Ok
 returns-in-Ok c x y merges front second origin =
     let own = c.args.asked.now in
-    let w = subst (AnswersPrepared own.implicates x y) c.in-Ok.is (subst (λ k. AnswersPrepared k x y c.prepare.result) (ap (λ (k : Asked). k.implicates) c.asked.view_is) (c.prepare.ensures.answers x y front second)) in
-    prepared_goes_on own.implicates x y (SolvesTrees own merges) c.in-Ok.prepared w c.solve_by.result
-    (subst (λ g. IfOk c.solve_by.result (ComesByTable g (initial_of w.first w.second) (source_of own) merges (SolvesGround own.classical own.budget g (initial_of w.first w.second)))) w.ground
-    (c.solve_by.ensures (source_of own) merges (initial_of w.first w.second) origin w.primes.same_models))
+    let answers = subst (λ (k : Asked). AnswersTabled k.implicates x y (source_of own) merges c.tabled_of.result) c.asked.view_is (c.tabled_of.ensures x y (source_of own) merges front second origin) in
+    tabled_goes own.implicates x y (source_of own) merges (SolvesGround own.classical own.budget) (ground_is_solved_by_models own.classical own.budget) c.in-Ok.tabled (subst (AnswersTabled own.implicates x y (source_of own) merges) c.in-Ok.is answers) c.solve_table.result
+    (subst (λ (k : Asked). IfOk c.solve_table.result (SolvesGround k.classical k.budget (ground_in c.in-Ok.tabled) (formula_in c.in-Ok.tabled) c.in-Ok.tabled.table)) c.asked.view_is c.solve_table.ensures)
 
--- it ends early
+-- it ends before
 pub returns-in-Err : goal.returns-in-Err
 returns-in-Err c x y merges front second origin =
     let own = c.args.asked.now in
-    prepared_ends own.implicates x y (SolvesTrees own merges) c.in-Err.early c.settle.result (subst (AnswersPrepared own.implicates x y) c.in-Err.is (subst (λ k. AnswersPrepared k x y c.prepare.result) (ap (λ (k : Asked). k.implicates) c.asked.view_is) (c.prepare.ensures.answers x y front second))) c.settle.ensures
+    let answers = subst (λ (k : Asked). AnswersTabled k.implicates x y (source_of own) merges c.tabled_of.result) c.asked.view_is (c.tabled_of.ensures x y (source_of own) merges front second origin) in
+    tabled_ends own.implicates x y (source_of own) merges (SolvesGround own.classical own.budget) c.in-Err.early c.settle.result (subst (AnswersTabled own.implicates x y (source_of own) merges) c.in-Err.is answers) c.settle.ensures

@@ -1,30 +1,25 @@
-use Rattle.std.proofs.Common.{ap, subst, IfOk}
-use Rattle.kp_law_translation.specs.OfTrees.{initial_of}
-use Rattle.kp_run_prepare.specs.Prepared.{AnswersPrepared}
+use Rattle.std.proofs.Common.{subst}
 use Rattle.kp_words.specs.Asked.{Asked, source_of}
-use Rattle.kp_run_inputs.specs.SourceTables.{ComesByTable}
-use Rattle.kp_run_inputs.proofs.Public.{prepared_goes_on, prepared_ends}
-use Rattle.kp_run.specs.Translate.{TranslatesGround, TranslatesTrees}
+use Rattle.kp_run_inputs.specs.Tabled.{AnswersTabled}
+use Rattle.kp_run_inputs.proofs.Public.{tabled_goes, tabled_ends}
+use Rattle.kp_run.specs.Translate.{TranslatesGround}
+use Rattle.kp_run.proofs.Translations.{ground_by}
 use Rattle.kp_run.proofs.Reading.{short_origin}
 use Rattle.kp_run.proofs.translate.translate_on.Goals as goal
 
-pub with_origin-requires-clause-short : goal.with_origin-requires-clause-short
-with_origin-requires-clause-short c = short_origin (source_of c.args.asked.now) c.requires.origin.0 c.args.origin c.requires.origin.1
-
-pub with_origin-requires-clause-origin : goal.with_origin-requires-clause-origin
-with_origin-requires-clause-origin c = (source_of c.args.asked.now, c.requires.origin.0, c.requires.origin.1)
+pub tabled_of-requires-clause-origin : goal.tabled_of-requires-clause-origin
+tabled_of-requires-clause-origin c = short_origin (source_of c.args.asked.now) c.requires.origin.0 c.args.origin c.requires.origin.1
 
 -- the command goes on
 pub returns-in-Ok : goal.returns-in-Ok
 returns-in-Ok c x y merges front second origin =
     let own = c.args.asked.now in
-    let w = subst (AnswersPrepared own.implicates x y) c.in-Ok.is (subst (λ k. AnswersPrepared k x y c.prepare.result) (ap (λ (k : Asked). k.implicates) c.asked.view_is) (c.prepare.ensures.answers x y front second)) in
-    prepared_goes_on own.implicates x y (TranslatesTrees own merges) c.in-Ok.prepared w c.with_origin.result
-    (subst (λ g. IfOk c.with_origin.result (ComesByTable g (initial_of w.first w.second) (source_of own) merges (TranslatesGround own g (initial_of w.first w.second)))) w.ground
-    (c.with_origin.ensures (source_of own) merges (initial_of w.first w.second) origin w.primes.same_models))
+    let answers = subst (λ (k : Asked). AnswersTabled k.implicates x y (source_of own) merges c.tabled_of.result) c.asked.view_is (c.tabled_of.ensures x y (source_of own) merges front second origin) in
+    tabled_goes own.implicates x y (source_of own) merges (TranslatesGround own) (ground_by own) c.in-Ok.tabled (subst (AnswersTabled own.implicates x y (source_of own) merges) c.in-Ok.is answers) c.translate_with.result c.translate_with.ensures
 
--- it ends early
+-- it ends before
 pub returns-in-Err : goal.returns-in-Err
 returns-in-Err c x y merges front second origin =
     let own = c.args.asked.now in
-    prepared_ends own.implicates x y (TranslatesTrees own merges) c.in-Err.early c.settle.result (subst (AnswersPrepared own.implicates x y) c.in-Err.is (subst (λ k. AnswersPrepared k x y c.prepare.result) (ap (λ (k : Asked). k.implicates) c.asked.view_is) (c.prepare.ensures.answers x y front second))) c.settle.ensures
+    let answers = subst (λ (k : Asked). AnswersTabled k.implicates x y (source_of own) merges c.tabled_of.result) c.asked.view_is (c.tabled_of.ensures x y (source_of own) merges front second origin) in
+    tabled_ends own.implicates x y (source_of own) merges (TranslatesGround own) c.in-Err.early c.settle.result (subst (AnswersTabled own.implicates x y (source_of own) merges) c.in-Err.is answers) c.settle.ensures

@@ -10,7 +10,7 @@ use Rattle.kp_run.proofs.width.width_on.Goals as goal
 pub returns-in-Ok : goal.returns-in-Ok
 returns-in-Ok c x y front second =
     let n = c.args.asked.now.implicates in
-    let w = subst (AnswersPrepared n x y) c.in-Ok.is (subst (λ k. AnswersPrepared k x y c.prepare.result) (ap (λ (k : Asked). k.implicates) c.asked.view_is) (c.prepare.ensures.answers x y front second)) in
+    let w = subst (AnswersPrepared n x y) c.in-Ok.is (subst (λ k. AnswersPrepared k x y c.prepare.result) (ap (λ (k : Asked). k.implicates) c.asked.view_is) (c.prepare.ensures x y front second)) in
     prepared_goes_on n x y (WidthTrees c.args.asked.now) c.in-Ok.prepared w c.measure.result
     (subst (λ g. IfOk c.measure.result (WidthGround c.args.asked.now.bound g (initial_of w.first w.second))) w.ground
     (subst (λ b. IfOk c.measure.result (WidthGround b c.in-Ok.prepared.ground (initial_of w.first w.second))) (ap (λ (k : Asked). k.bound) c.asked.view_is) (c.measure.ensures (initial_of w.first w.second) w.primes.same_models)))
@@ -19,4 +19,4 @@ returns-in-Ok c x y front second =
 pub returns-in-Err : goal.returns-in-Err
 returns-in-Err c x y front second =
     let n = c.args.asked.now.implicates in
-    prepared_ends n x y (WidthTrees c.args.asked.now) c.in-Err.early c.settle.result (subst (AnswersPrepared n x y) c.in-Err.is (subst (λ k. AnswersPrepared k x y c.prepare.result) (ap (λ (k : Asked). k.implicates) c.asked.view_is) (c.prepare.ensures.answers x y front second))) c.settle.ensures
+    prepared_ends n x y (WidthTrees c.args.asked.now) c.in-Err.early c.settle.result (subst (AnswersPrepared n x y) c.in-Err.is (subst (λ k. AnswersPrepared k x y c.prepare.result) (ap (λ (k : Asked). k.implicates) c.asked.view_is) (c.prepare.ensures x y front second))) c.settle.ensures

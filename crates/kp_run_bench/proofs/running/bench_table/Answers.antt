@@ -1,33 +1,39 @@
-use Rattle.std.proofs.Common.{subst, IfOk}
-use Rattle.kp_primes.specs.Held.{formula}
+use Rattle.std.proofs.Common.{[], sym, subst, IfOk}
 use Rattle.kp_law_ktask.specs.Task.{task_of}
-use Rattle.kp_ktask.specs.Translated.{FitsLimits, RefusesTask, StopsTask}
-use Rattle.kp_search.specs.declared.found.Found.{Found}
-use Rattle.kp_run_solve.specs.Solving.{Finds}
-use Rattle.kp_run_bench.specs.Bench.{TellsBench}
+use Rattle.kp_words.specs.Asked.{of_mode}
+use Rattle.kp_words.specs.Options.{usual_limit}
+use Rattle.kp_run_inputs.specs.declared.tabled.Tabled.{Tabled}
+use Rattle.kp_run_inputs.specs.Tabled.{ground_in, formula_in, IsTabledOf}
+use Rattle.kp_run_inputs.specs.Tasks.{AnswersTask}
+use Rattle.kp_run_inputs.proofs.Public.{task_goes, task_ends}
+use Rattle.kp_run_solve.specs.Solving.{Searches}
+use Rattle.kp_run_bench.specs.Bench.{TellsBench, BenchesGround}
 use Rattle.kp_run_bench.proofs.Safe.{is_safe}
-use Rattle.kp_run_bench.proofs.Told.{task_refused, task_searched}
 use Rattle.kp_run_bench.proofs.running.bench_table.Goals as goal
 
-pub bench_task-requires-clause-safe : goal.bench_task-requires-clause-safe
-bench_task-requires-clause-safe c =
-    let g = c.args.prepared.now.ground in
-    is_safe c.args.command.now.mode c.args.prepared.now c.args.table.now c.requires.posed
-    (subst (λ m. FitsLimits (task_of g c.args.table.now) m) c.usual.ensures c.in-Ok.ensures.0)
+-- the table is that of the mode
+pub bench_task-requires : goal.bench_task-requires
+bench_task-requires c =
+    let source = of_mode c.args.command.now.mode in
+    let same = subst (AnswersTask c.args.tabled) c.in-Ok.is c.translated_of.ensures in
+    let x = c.in-Ok.translated in
+    is_safe usual_limit c.requires.0 c.requires.1 source [] x.tabled (subst (IsTabledOf usual_limit c.requires.0 c.requires.1 source []) (sym same) c.requires.2) x.fits
 
 -- the task is within the limits
 pub returns-in-Ok : goal.returns-in-Ok
 returns-in-Ok c =
-    let g = c.args.prepared.now.ground in
-    let i = formula c.args.prepared.now.primes in
-    let t = c.args.command.now in
-    task_searched t g i c.args.table.now c.bench_task.result
-    (subst (λ m. FitsLimits (task_of g c.args.table.now) m) c.usual.ensures c.in-Ok.ensures.0)
-    (subst (λ k. IfOk c.bench_task.result (λ o. (found : Found) × Finds k t.budget found × TellsBench t g i c.args.table.now found o)) c.in-Ok.ensures.1 c.bench_task.ensures)
+    let a = c.args.command.now in
+    let x = c.in-Ok.translated in
+    let t = x.tabled in
+    let told = TellsBench a (ground_in t) (formula_in t) t.table in
+    subst (λ (v : Tabled). IfOk c.bench_task.result (BenchesGround a (ground_in v) (formula_in v) v.table)) (subst (AnswersTask c.args.tabled) c.in-Ok.is c.translated_of.ensures)
+    (task_goes (ground_in t) t.table (Searches (task_of (ground_in t) t.table) a.budget told) c.bench_task.result x.fits
+    (subst (λ task. IfOk c.bench_task.result (Searches task a.budget told)) x.is_task c.bench_task.ensures))
 
 -- it isn't
-pub returns-in-Err-Refused : goal.returns-in-Err-Refused
-returns-in-Err-Refused c =
-    let task = task_of c.args.prepared.now.ground c.args.table.now in
-    let stops = subst (λ s. StopsTask task c.usual.result s) c.in-Err-Refused.field-0-is c.in-Err-Refused.ensures in
-    task_refused c.args.command.now c.args.prepared.now.ground (formula c.args.prepared.now.primes) c.args.table.now c.in-Err-Refused.refused c.refuse.result (subst (λ m. RefusesTask task m c.in-Err-Refused.refused) c.usual.ensures stops) c.refuse.ensures
+pub returns-in-Err : goal.returns-in-Err
+returns-in-Err c =
+    let a = c.args.command.now in
+    let t = c.args.tabled in
+    task_ends (ground_in t) t.table (Searches (task_of (ground_in t) t.table) a.budget (TellsBench a (ground_in t) (formula_in t) t.table)) c.in-Err.early c.settle.result
+    (subst (AnswersTask t) c.in-Err.is c.translated_of.ensures) c.settle.ensures

@@ -17,9 +17,9 @@ pose-requires-clause-certain c =
     (subst (λ (g : Ground). SaysAtMostOneState (length g.atoms) (initial_of l)) (sym c.requires.ground) (says_at_most_one l c.requires.facts))
 
 -- its task, or no state
-pub returns-clause-answers : goal.returns-clause-answers
-returns-clause-answers c =
+pub returns : goal.returns
+returns c =
     let l = lifted_view c.args.lifted.now in
     let formula = c.in_ok-formula.ensures in
     subst (λ (g : Ground). AnswersFormula g (initial_of l) c.pose.result) c.requires.ground
-    (subst (λ (i : Initial). AnswersFormula c.args.made i c.pose.result) formula c.pose.ensures.answers)
+    (subst (λ (i : Initial). AnswersFormula c.args.made i c.pose.result) formula c.pose.ensures)

@@ -7,10 +7,10 @@ pub on_problem-requires : goal.on_problem-requires
 on_problem-requires c = record { facts = has_facts c.args.domain.bytes c.args.problem.bytes c.in-Ok.lifted c.in-Ok.ensures.read }
 
 -- the files have a problem
-pub returns-in-Ok-clause-answers : goal.returns-in-Ok-clause-answers
-returns-in-Ok-clause-answers c d p first second = c.on_problem.ensures.answers d p (c.in-Ok.ensures.resolved d p first second)
+pub returns-in-Ok : goal.returns-in-Ok
+returns-in-Ok c d p first second = c.on_problem.ensures d p (c.in-Ok.ensures.resolved d p first second)
 
 -- the files are refused
-pub returns-in-Err-clause-answers : goal.returns-in-Err-clause-answers
-returns-in-Err-clause-answers c d p first second =
+pub returns-in-Err : goal.returns-in-Err
+returns-in-Err c d p first second =
     texts_end d p c.in-Err.stop c.ended_by.result (λ r is. c.read_files.ensures.refused d p r first second (c.in-Err.is ∙ ap Err is)) c.ended_by.ensures

@@ -18,16 +18,16 @@ build-requires c =
     subst (λ (i : Initial). IsOfAtoms c.len-atoms.result i) (sym formula) (subst (λ (n : ℕ). IsOfAtoms n (initial_of l)) (sym many) (formula_by_number_is_over_atoms l))
 
 -- it has its prime implicates
-pub returns-in-Ok-clause-answers : goal.returns-in-Ok-clause-answers
-returns-in-Ok-clause-answers c =
+pub returns-in-Ok : goal.returns-in-Ok
+returns-in-Ok c =
     let l = lifted_view c.args.lifted.now in
     let formula = c.in_ok-formula.ensures in
     let here = subst (λ (i : Initial). HoldsPrimes i c.len-atoms.result c.args.implicates c.in-Ok.primes) formula c.in-Ok.ensures in
-    c.without_clash.ensures.answers l c.args.implicates c.requires.ground (subst (λ (n : ℕ). HoldsPrimes (initial_of l) n c.args.implicates c.in-Ok.primes) c.len-atoms.ensures here)
+    c.without_clash.ensures l c.args.implicates c.requires.ground (subst (λ (n : ℕ). HoldsPrimes (initial_of l) n c.args.implicates c.in-Ok.primes) c.len-atoms.ensures here)
 
 -- it has too many, or no model
-pub returns-in-Err-clause-answers : goal.returns-in-Err-clause-answers
-returns-in-Err-clause-answers c =
+pub returns-in-Err : goal.returns-in-Err
+returns-in-Err c =
     let l = lifted_view c.args.lifted.now in
     let formula = c.in_ok-formula.ensures in
     formula_ends c.args.implicates l c.in-Err.stop c.ended_by.result

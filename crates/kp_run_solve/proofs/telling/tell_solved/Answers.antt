@@ -1,5 +1,5 @@
 use Rattle.std.proofs.Common.{option_map, sym, subst, IfOk}
-use Rattle.kp_primes.specs.Held.{formula}
+use Rattle.kp_run_inputs.specs.Tabled.{ground_in, formula_in}
 use Rattle.kp_run_solve.specs.Solving.{TellsSolved}
 use Rattle.kp_run_solve.proofs.telling.tell_solved.Goals as goal
 
@@ -7,4 +7,5 @@ use Rattle.kp_run_solve.proofs.telling.tell_solved.Goals as goal
 pub returns-in-NoPlan : goal.returns-in-NoPlan
 returns-in-NoPlan c =
     let name = option_map (λ n. n.now) c.args.name in
-    subst (λ found. IfOk c.tell_no_plan.result (TellsSolved name c.args.prepared.now.ground (formula c.args.prepared.now.primes) c.args.table.now found)) (sym c.in-NoPlan.is) (c.tell_no_plan.ensures name)
+    let t = c.args.translated.now.tabled in
+    subst (λ found. IfOk c.tell_no_plan.result (TellsSolved name (ground_in t) (formula_in t) t.table found)) (sym c.in-NoPlan.is) (c.tell_no_plan.ensures name)

@@ -1,6 +1,7 @@
--- The empty tag alone is the table of no merges, as `k0` has none. Where no effect has a condition, it covers each target, and is the table of each mode.
+-- The empty tag alone is the table of no merges, as `k0` has none, and its task is within the limits. Where no effect has a condition, it covers each target, and is the table of each mode.
 use Rattle.std.proofs.Common.{◌≡◌, ℕ, List, [], ◌∷◌, Some, length, inl, inr, refl, sym, ap, subst, ◌∙◌, arith}
 use Rattle.std.proofs.lemmas.Bool.{false≢true}
+use Rattle.std.proofs.lemmas.List.{length-map}
 use Rattle.kp_base.specs.declared.lit.Lit.{Lit}
 use Rattle.kp_base.specs.declared.ground.Action.{Action}
 use Rattle.kp_base.specs.declared.ground.Effect.{Effect}
@@ -20,8 +21,12 @@ use Rattle.kp_tags.specs.Made.{IsMade}
 use Rattle.kp_base.proofs.Closures.{closure_over_first_atoms}
 use Rattle.kp_law_translation.specs.OfTrees.{ground_of, initial_of}
 use Rattle.kp_law_translation.specs.Tables.{empty_tag}
-use Rattle.kp_law_translation.proofs.Public.{formulas_speak_of_ground_atoms}
+use Rattle.kp_law_translation.proofs.Public.{formulas_speak_of_ground_atoms, empty_tags_are_light}
+use Rattle.kp_names_semantics.specs.Numbering.{numbered_problem}
+use Rattle.kp_ground_semantics.specs.Ground.{ground_atoms, atom_name}
+use Rattle.kp_law_ktask.proofs.Public.{facts_are_counted}
 use Rattle.kp_run_prepare.specs.Prepared.{usual}
+use Rattle.kp_run_inputs.specs.Laws.{EmptyTagsFit}
 
 -- ---- the table of no merges
 
@@ -88,4 +93,13 @@ empty_tag_made_in_modes d p mode way targets none is are = record {
   of_mode = subst (λ w. AreMergesOf usual.sets (ground_of d p) (initial_of d p) w []) (sym is) (AreMergesOf.of_targets way targets [] are (none_in_turn (ground_of d p) (initial_of d p) none way usual.sets targets));
   within_limit = omega arith;
   is_table = table_of_none d p;
+}
+
+-- ---- its task
+
+-- there are at most two facts for each of 4,096 atoms
+pub empty_tags_fit : EmptyTagsFit
+empty_tags_fit d p w = record {
+  facts = (let a = facts_are_counted (ground_of d p) (empty_tag d p) in let b = length-map (ground_atoms (numbered_problem d p)) (atom_name (numbered_problem d p)) in let c = w.atoms in omega (arith, a, b, c));
+  weight = (let a = empty_tags_are_light d p in let b = w.counts.weight in omega (arith, a, b));
 }

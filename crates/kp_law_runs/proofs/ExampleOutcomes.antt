@@ -21,7 +21,7 @@ use Rattle.kp_base.specs.Planning.{Member, positive, negative, IsAscending, Stat
 use Rattle.kp_primes.specs.Included.{all_included}
 use Rattle.kp_primes.proofs.Public.{counted_is_never_over}
 use Rattle.kp_law_tagged_machine.proofs.Public.{swap_is_clash_free}
-use Rattle.kp_run.proofs.ClashFree.{clash_free_with_table, two_atoms}
+use Rattle.kp_law_runs.proofs.ClashFree.{clash_free_with_table, two_atoms}
 use Rattle.kp_lex.specs.Bytes.{class_of}
 use Rattle.kp_lex.specs.Scanning.{cut_from}
 use Rattle.kp_tree_grammar.specs.Symbols.{symbol_of}
@@ -51,19 +51,17 @@ use Rattle.kp_words.specs.declared.verb.Verb.TheVariants as verbs
 use Rattle.kp_words.specs.Command.{IsCall}
 use Rattle.kp_words.proofs.Public.{no_words_are_no_command, example_two_apart, call_by_words, files_by_computing, usual_numbers, nothing_generated}
 use Rattle.kp_words.specs.Owned.{bare}
-use Rattle.kp_run.proofs.Reading.{content_held, held_alone}
-use Rattle.kp_run.proofs.Comes.{due_by, due_makes}
+use Rattle.kp_run.proofs.Public.{content_held, held_alone, due_by, due_makes, got_after_insert as at_last, got_beside_insert as under_another, done_is_sound as sound_end}
 use Rattle.kp_run_prepare.specs.Texts.{HaveTrees}
 use Rattle.kp_run_prepare.specs.Prepared.{usual, IsStarted, later}
 use Rattle.kp_run_inputs.specs.SourceTables.{by_mode, with_table}
-use Rattle.kp_run.specs.Translate.{translates, done, TranslatesTexts}
+use Rattle.kp_run_inputs.specs.Tasks.{with_task}
+use Rattle.kp_run.specs.Translate.{translates, TranslatesTexts}
 use Rattle.kp_run.specs.Outcomes.{shows_usage, IsDue, usage}
 use Rattle.kp_run.specs.Ends.{Ends, came}
 use Rattle.kp_run.specs.Soundness.{IsSound}
-use Rattle.kp_run.proofs.Counted.{empty_tags_fit}
-use Rattle.kp_run.proofs.EmptyTags.{HaveNoConditions, empty_tag_made, nothing_uncovered}
-use Rattle.kp_run.proofs.Computed.{reads_file}
-use Rattle.kp_run.proofs.Soundness.{at_last, under_another, sound_end}
+use Rattle.kp_run_inputs.proofs.Public.{empty_tags_fit, HaveNoConditions, empty_tag_made, nothing_uncovered}
+use Rattle.kp_law_runs.proofs.Computed.{reads_file}
 
 -- ---- words
 
@@ -220,7 +218,7 @@ the_outcome = translates command (ground_of exchange_tree from_p_to_q_tree) the_
 
 is_done : TranslatesTexts command exchange_text from_p_to_q_text [] the_outcome
 is_done = later exchange_tree from_p_to_q_tree trees (record { started = started; clash_free = no_clash })
-    (with_table the_table (by_mode modes.K0 the_table (empty_tag_made exchange_tree from_p_to_q_tree)) (done [] (empty_tags_fit exchange_tree from_p_to_q_tree started.small) (nothing_uncovered (ground_of exchange_tree from_p_to_q_tree) from_p (unconditional from_p_to_q_tree refl) the_table) refl))
+    (with_table the_table (by_mode modes.K0 the_table (empty_tag_made exchange_tree from_p_to_q_tree)) (with_task (empty_tags_fit exchange_tree from_p_to_q_tree started.small) (record { uncovered = []; are = nothing_uncovered (ground_of exchange_tree from_p_to_q_tree) from_p (unconditional from_p_to_q_tree refl) the_table; outcome = refl })))
 
 abbrev held : FileMap
 held = holding exchange_text from_p_to_q_text

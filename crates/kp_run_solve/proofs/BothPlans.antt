@@ -15,7 +15,7 @@ use Rattle.kp_law_translation.specs.Tables.{IsTableFor}
 use Rattle.kp_law_translation.specs.Written.{translation_of}
 use Rattle.kp_law_translation.proofs.Public.{tables_can_be_written, translations_are_sound}
 use Rattle.kp_run_solve.specs.Solving.{AreNamed}
-use Rattle.kp_run_solve.proofs.Public.{named_plans_are_accepted}
+use Rattle.kp_run_solve.proofs.Plans.{named_accepted as named_plans_are_accepted}
 
 pub record AreBothPlans (domain problem : List ℕ) (x : HasProblem domain problem) (table : TagTable) (written plan : List Step) : Type 0 where
   pub is_written : IsPlan (translation_of x.domain x.problem table).domain (translation_of x.domain x.problem table).problem written

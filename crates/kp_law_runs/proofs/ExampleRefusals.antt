@@ -18,7 +18,7 @@ use Rattle.kp_primes.specs.Answers.{RefusesPrimes, too_many}
 use Rattle.kp_primes.proofs.Public.{counted_is_never_over, prefix_stops_the_build}
 use Rattle.kp_clash.proofs.Public.{first_found_is_first_clash}
 use Rattle.kp_law_tagged_machine.proofs.Public.{swap_is_clash_free}
-use Rattle.kp_run.proofs.ClashFree.{clash_free_with_table, two_atoms}
+use Rattle.kp_law_runs.proofs.ClashFree.{clash_free_with_table, two_atoms}
 use Rattle.kp_lex.specs.Bytes.{class_of}
 use Rattle.kp_lex.specs.Cutting.{at_end}
 use Rattle.kp_lex.specs.Scanning.{cut_from}
@@ -46,12 +46,12 @@ use Rattle.kp_run_prepare.specs.Refusing.{named_in}
 use Rattle.kp_run_prepare.specs.Prepared.{IsStarted, RefusesTrees, implicates_over, no_initial_state, clash, by_texts, by_trees, early, later}
 use Rattle.kp_base.specs.declared.limits.Mode.TheVariants as modes
 use Rattle.kp_run_inputs.specs.SourceTables.{by_mode, with_table}
-use Rattle.kp_run.specs.Translate.{translates, done, TranslatesTexts}
+use Rattle.kp_run_inputs.specs.Tasks.{with_task}
+use Rattle.kp_run.specs.Translate.{translates, TranslatesTexts}
 use Rattle.kp_run.specs.Outcomes.{IsDue}
-use Rattle.kp_run.proofs.Counted.{empty_tags_fit}
-use Rattle.kp_run.proofs.Computed.{reads_file}
-use Rattle.kp_run.proofs.ExampleOutcomes.{closed_q, command, domain_reads, due_with, few_primes, has_state, holding, is_limited, is_small, limited, on_files, only_p, unconditional, with_limit, words}
-use Rattle.kp_run.proofs.EmptyTags.{empty_tag_made, nothing_uncovered}
+use Rattle.kp_run_inputs.proofs.Public.{empty_tags_fit, empty_tag_made, nothing_uncovered}
+use Rattle.kp_law_runs.proofs.Computed.{reads_file}
+use Rattle.kp_law_runs.proofs.ExampleOutcomes.{closed_q, command, domain_reads, due_with, few_primes, has_state, holding, is_limited, is_small, limited, on_files, only_p, unconditional, with_limit, words}
 
 -- ---- refusals: no initial state
 
@@ -209,7 +209,7 @@ half_known_outcome = translates command (ground_of exchange_tree half_known_tree
 
 half_known_done : TranslatesTexts command exchange_text half_known [] half_known_outcome
 half_known_done = later exchange_tree half_known_tree half_known_trees (record { started = half_known_started; clash_free = clash_free_with_table _ two_atoms (initial_of exchange_tree half_known_tree) (swap_is_clash_free (initial_of exchange_tree half_known_tree) (closed_q (initial_of exchange_tree half_known_tree) refl)) })
-    (with_table half_known_table (by_mode modes.K0 half_known_table (empty_tag_made exchange_tree half_known_tree)) (done [] (empty_tags_fit exchange_tree half_known_tree half_known_started.small) (nothing_uncovered (ground_of exchange_tree half_known_tree) (initial_of exchange_tree half_known_tree) (unconditional half_known_tree refl) half_known_table) refl))
+    (with_table half_known_table (by_mode modes.K0 half_known_table (empty_tag_made exchange_tree half_known_tree)) (with_task (empty_tags_fit exchange_tree half_known_tree half_known_started.small) (record { uncovered = []; are = nothing_uncovered (ground_of exchange_tree half_known_tree) (initial_of exchange_tree half_known_tree) (unconditional half_known_tree refl) half_known_table; outcome = refl })))
 
 half_known_due : IsDue words (Some (holding exchange_text half_known)) half_known_outcome
 half_known_due = on_files exchange_text half_known _ half_known_done

@@ -1,4 +1,4 @@
--- The task of two trees and a table within the limits is fit to be searched, and so is that of two classical trees.
+-- The task of two trees and a table within the limits is fit to be searched.
 use Rattle.std.proofs.Common.{arith}
 use Rattle.kp_base.specs.declared.ground.TagTable.{TagTable}
 use Rattle.kp_tree_grammar.specs.declared.tree.Word.{Word}
@@ -12,10 +12,7 @@ use Rattle.kp_ktask.specs.Translated.{FitsLimits}
 use Rattle.kp_run_prepare.specs.Prepared.{usual, IsSmall}
 use Rattle.kp_run_prepare.proofs.Public.{ground_has_few_actions}
 use Rattle.kp_run_inputs.proofs.Public.{table_has_few_merges}
-use Rattle.kp_classic.proofs.Public.{task_of_ground_fits as ground_fits}
-use Rattle.kp_law_translation.specs.OfTrees.{ground_of, initial_of}
-use Rattle.kp_run_classical.specs.Classical.{IsClassicalProblem, task_of as classical_task}
-use Rattle.kp_run_classical.proofs.Public.{classical_ground_is_of_its_atoms}
+use Rattle.kp_law_translation.specs.OfTrees.{ground_of}
 use Rattle.kp_lift.proofs.Public.{operators_are_counted}
 
 pub task_fits : (d : Domain Word) (p : Problem Word) (table : TagTable) → IsSmall d p → FitsLimits (task_of (ground_of d p) table) usual → IsWritableTask (ground_of d p) table → IsFit (task_of (ground_of d p) table)
@@ -25,6 +22,3 @@ task_fits d p table small fits writable =
     let merges = table_has_few_merges (ground_of d p) table fits in
     let actions = ground_has_few_actions (numbered_problem d p) small.counts in
     tagged_tasks_are_fit (ground_of d p) table writable (omega (arith, facts)) (omega (arith, ops, merges, actions))
-
-pub classical_fit : (d : Domain Word) (p : Problem Word) → IsClassicalProblem d p → IsFit (classical_task d p)
-classical_fit d p c = ground_fits (ground_of d p) (initial_of d p) (classical_ground_is_of_its_atoms (numbered_problem d p) (ground_of d p) c.small)
